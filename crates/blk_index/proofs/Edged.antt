@@ -12,8 +12,8 @@ use Rattle.blk_index.specs.declared.edges.Edge.{Edge}
 use Rattle.blk_index.specs.declared.edges.Edges.{Edges}
 use Rattle.blk_index.specs.Keys.{keyed_cmp}
 use Rattle.blk_index.specs.Inside.Spots.{DirSector, Spot, place_cmp, Becomes}
-use Rattle.blk_index.specs.Inside.Entries.{Class, Key}
-use Rattle.blk_index.specs.Inside.Shapes.{entries_in, IsInClass, ShapeListed}
+use Rattle.blk_index.specs.Inside.Entries.{Key}
+use Rattle.blk_index.specs.Inside.Shapes.{entries_in, entry_at, IsIn, Spares, ShapeListed}
 use Rattle.blk_index.specs.Inside.Edges.{stands_alone, IsListedAt, IsListedAs, KeepsBut, KeepsOwn, IsEdge, IsEdges}
 use Rattle.blk_index.proofs.Indexed.{Found}
 use Rattle.blk_index.proofs.Shaped.{taken_but, spot_exact}
@@ -23,12 +23,12 @@ use Rattle.blk_index.proofs.Shaped.{taken_but, spot_exact}
 abbrev Has : Type 0
 Has = Key → Bool
 
--- entries stay, and those of a class and an id may go
+-- entries stay, and those of a place and an id may go
 abbrev pub KeepsEntries : Has → Has → Type 0
 KeepsEntries old new = (e : Key) → old e ≡ true → new e ≡ true
 
-abbrev pub KeepsEntriesBut : Class → ℕ → Has → Has → Type 0
-KeepsEntriesBut class id old new = (e : Key) → (e.0.0.0 ≡ class → e.1 ≡ id → ⊥) → old e ≡ true → new e ≡ true
+abbrev pub KeepsEntriesBut : DirSector → ℕ → Has → Has → Type 0
+KeepsEntriesBut place id old new = (e : Key) → (e.0.0.0.0.0 ≡ place → e.1 ≡ id → ⊥) → old e ≡ true → new e ≡ true
 
 pub listed_still : (old new : Has) (p : DirSector) (k s b : ℕ) → KeepsEntries old new → ShapeListed old p k s b → ShapeListed new p k s b
 listed_still old new p k s b keeps is = record {
@@ -36,29 +36,29 @@ listed_still old new p k s b keeps is = record {
   said_bios = is.said_bios;
   least = is.least;
   fewest = is.fewest;
-  there = λ unit size. keeps ((((p, is.said_bios), unit), is.said / unit), k) (is.there unit size);
+  there = λ span spans unit size. keeps (entry_at p (is.said_bios, is.said) k span unit) (is.there span spans unit size);
 }
 
-pub listed_but : (old new : Has) (class : Class) (id : ℕ) (p : DirSector) (k s b : ℕ) → KeepsEntriesBut class id old new → (p ≡ class.0 → k ≡ id → ⊥) → ShapeListed old p k s b → ShapeListed new p k s b
-listed_but old new class id p k s b keeps other is = record {
+pub listed_but : (old new : Has) (place : DirSector) (id : ℕ) (p : DirSector) (k s b : ℕ) → KeepsEntriesBut place id old new → (p ≡ place → k ≡ id → ⊥) → ShapeListed old p k s b → ShapeListed new p k s b
+listed_but old new place id p k s b keeps other is = record {
   said = is.said;
   said_bios = is.said_bios;
   least = is.least;
   fewest = is.fewest;
-  there = λ unit size. keeps ((((p, is.said_bios), unit), is.said / unit), k) (λ same own. other (ap (λ (c : Class). c.0) same) own) (is.there unit size);
+  there = λ span spans unit size. keeps (entry_at p (is.said_bios, is.said) k span unit) other (is.there span spans unit size);
 }
 
--- a request that is listed in another class
-pub listed_in : (old new : Has) (class : Class) (id : ℕ) (p : DirSector) (k more longer s b : ℕ) → KeepsEntriesBut class id old new → (longer ≡ class.1 → ⊥) → IsInClass old (p, longer) more k → more ≤ s → longer ≤ b → ShapeListed new p k s b
-listed_in old new class id p k more longer s b keeps other there grown longer_low = record {
-  said = more;
-  said_bios = longer;
+-- a request that is listed in another shape
+pub listed_in : (old new : Has) (p : DirSector) (k : ℕ) (shape : ℕ × ℕ) (s b : ℕ) → Spares p k old new shape → IsIn old p shape k → shape.1 ≤ s → shape.0 ≤ b → ShapeListed new p k s b
+listed_in old new p k shape s b spares there grown longer_low = record {
+  said = shape.1;
+  said_bios = shape.0;
   least = grown;
   fewest = longer_low;
-  there = λ unit size. keeps ((((p, longer), unit), more / unit), k) (λ same own. other (ap (λ (c : Class). c.1) same)) (there unit size);
+  there = λ span spans unit size. spares span unit (there span spans unit size);
 }
 
-pub listed_as : (has : Has) (p : DirSector) (k s b : ℕ) → IsInClass has (p, b) s k → ShapeListed has p k s b
+pub listed_as : (has : Has) (p : DirSector) (k s b : ℕ) → IsIn has p (b, s) k → ShapeListed has p k s b
 listed_as has p k s b there = record { said = s; said_bios = b; least = omega arith; fewest = omega arith; there = there }
 
 -- one put among those that stand by themselves, and one taken
@@ -74,7 +74,7 @@ module _ {A : Type 0} where
   -- where there are no others, what is listed stands by itself
   pub by_itself : (e : Edge A) (p : DirSector) (k s b : ℕ) → ((x : Key) → entries_in e.others x ≡ false) → IsListedAt e p k s b → stands_alone e (p, k) ≡ true
   by_itself e p k s b none (inl one) = one
-  by_itself e p k s b none (inr is) = let no : true ≡ false = sym (is.there 1 (inl refl)) ∙ none ((((p, is.said_bios), 1), is.said / 1), k) in absurd (cc)
+  by_itself e p k s b none (inr is) = let no : true ≡ false = sym (is.there 1 (inl refl) 1 (inl refl)) ∙ none (entry_at p (is.said_bios, is.said) k 1 1) in absurd (cc)
 
   pub lists_more : (e : Edge A) (p : DirSector) (k s b more longer : ℕ) → s ≤ more → b ≤ longer → IsListedAt e p k s b → IsListedAt e p k more longer
   lists_more e p k s b more longer grown longer_low (inl one) = inl one

@@ -26,7 +26,7 @@ named_joined m n id at side newcomer (Err x) named join same = named_same (map.g
 
 module _ (m n : Pending) (id at : ℕ) (side : Side) (newcomer : Extent) (v : Waiting) (found : Some v ≡ map.get m id) (filled : IsExtent newcomer) (touch : HasTouch (map.get m) newcomer id side) where
   -- more bios fill it
-  pub longer : (x : Extent) → x ≡ extent_joined v.extent newcomer side → v.extent.bios < x.bios
+  longer : (x : Extent) → x ≡ extent_joined v.extent newcomer side → v.extent.bios < x.bios
   longer x is =
       let some = filled.some in
       let both : x.bios ≡ v.extent.bios + newcomer.bios = ap (λ (e : Extent). e.bios) is ∙ bios_both v.extent newcomer side in

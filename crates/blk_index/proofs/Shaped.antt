@@ -10,8 +10,8 @@ use borrow.Author.Tests.{ltb-true, ltb-false}
 use Rattle.blk_index.specs.Inside.Spots.{DirSector, place_cmp, IsBelow, IsNewer, greater_of}
 use Rattle.ordered.specs.Ordered.{Adds, Takes, Keeps, IsGreatestBelow, NoneBelow}
 use Rattle.blk_index.specs.Keys.{keyed_cmp}
-use Rattle.blk_index.specs.Inside.Entries.{Class, Block, Key, class_cmp, sized_cmp, block_cmp, entry_cmp}
-use Rattle.blk_index.specs.Inside.Shapes.{IsUnit, IsInClass, StandsBetween, upper_of}
+use Rattle.blk_index.specs.Inside.Entries.{Sized, Block, Key, spanned_cmp, class_cmp, sized_cmp, block_cmp, entry_cmp}
+use Rattle.blk_index.specs.Inside.Shapes.{IsSpan, IsUnit, IsIn, IsInClass, entry_at, Spares, StandsBetween, upper_of}
 use Rattle.blk_index.proofs.Listed.{lt_of, nat_less, eq_of, same_place, place_itself, is_equal, first_less, below_zero}
 
 number_itself : (n : ℕ) → nat_cmp n n ≡ Equal
@@ -79,8 +79,11 @@ module _ {K : Type 0} (cmp : K → K → Ordering) (exact : IsExact cmp) where
     | Greater ↦ λ h. let g : Greater ≡ Less = sym (ap (λ o. ordering_then o (nat_cmp e.1 b)) h) ∙ low in absurd (cc)
   ] refl
 
-class_exact : IsExact class_cmp
-class_exact = number_exact place_cmp place_exact
+spanned_exact : IsExact spanned_cmp
+spanned_exact = number_exact place_cmp place_exact
+
+pub class_exact : IsExact class_cmp
+class_exact = number_exact spanned_cmp spanned_exact
 
 pub sized_exact : IsExact sized_cmp
 sized_exact = number_exact class_cmp class_exact
@@ -93,44 +96,40 @@ is_not_less Less h e = cc
 is_not_less Equal h e = cc
 is_not_less Greater h e = cc
 
--- ---- the classes of a place
+-- ---- the blocks of a size
 
-abbrev first_of_class : Class → Key
-first_of_class class = (((class, 0), 0), 0)
+module _ (has : Key → Bool) (sized : Sized) (end : ℕ) where
+  low_entry : (n k : ℕ) → n < end → entry_cmp ((sized, n), k) ((sized, end), 0) ≡ Less
+  low_entry n k less = sooner block_cmp ((sized, n), k) ((sized, end), 0) (same_then sized_cmp sized_exact (sized, n) sized end refl less)
 
-in_class : (e q : Key) → class_cmp e.0.0.0 q.0.0.0 ≡ Less → entry_cmp e q ≡ Less
-in_class e q h = sooner block_cmp e q (sooner sized_cmp e.0 q.0 (sooner class_cmp e.0.0 q.0.0 h))
+  pub no_block : NoneBelow entry_cmp has ((sized, end), 0) → (n k : ℕ) → n < end → has ((sized, n), k) ≡ true → ⊥
+  no_block none n k less there = let x : true ≡ false = sym there ∙ none ((sized, n), k) (low_entry n k less) in cc
 
-before_class : (e : Key) (class : Class) → entry_cmp e (first_of_class class) ≡ Less → class_cmp e.0.0.0 class ≡ Less
-before_class e class low = before class_cmp e.0.0 class (before sized_cmp e.0 (class, 0) (before block_cmp e ((class, 0), 0) low))
+  module _ (e : Key) (found : IsGreatestBelow entry_cmp has ((sized, end), 0) e) where
+    stays_below : (n k : ℕ) → n < end → has ((sized, n), k) ≡ true → entry_cmp e ((sized, n), k) ≡ Less → ⊥
+    stays_below n k less there h = is_not_less (entry_cmp e ((sized, n), k)) (found.greatest ((sized, n), k) (low_entry n k less) there) h
 
-class_less : (p : DirSector) (b bound : ℕ) → b < bound → class_cmp (p, b) (p, bound) ≡ Less
-class_less p b bound less = same_then place_cmp place_exact (p, b) p bound refl less
+    pub of_block : (n k : ℕ) → n < end → has ((sized, n), k) ≡ true → (e.0.0 ≡ sized) × (e.0.1 < end) × (n ≤ e.0.1)
+    of_block n k less there =
+        between sized_cmp sized_exact e.0 sized end n (before block_cmp e (sized, end) found.low)
+        (λ h. stays_below n k less there (sooner block_cmp e ((sized, n), k) h))
 
-module _ (has : Key → Bool) (p : DirSector) (bound : ℕ) where
-  low_entry : (s k b : ℕ) → b < bound → entry_cmp (((((p, b), 1), s / 1), k)) (first_of_class (p, bound)) ≡ Less
-  low_entry s k b less = in_class ((((p, b), 1), s / 1), k) (first_of_class (p, bound)) (class_less p b bound less)
+    pub block_low : e.0.0 ≡ sized → e.0.1 < end
+    block_low same =
+        let low : block_cmp e.0 (sized, end) ≡ Less = before block_cmp e (sized, end) found.low in
+        lt_of e.0.1 end (sym (ap (λ o. ordering_then o (nat_cmp e.0.1 end)) (ap (λ x. sized_cmp x sized) same ∙ sized_exact.itself sized)) ∙ low)
 
-  pub no_class : NoneBelow entry_cmp has (first_of_class (p, bound)) → (s k b : ℕ) → IsInClass has (p, b) s k → b < bound → ⊥
-  no_class none s k b there less = let x : true ≡ false = sym (there 1 (inl refl)) ∙ none ((((p, b), 1), s / 1), k) (low_entry s k b less) in cc
-
-  pub of_class : (e : Key) → IsGreatestBelow entry_cmp has (first_of_class (p, bound)) e → (s k b : ℕ) → IsInClass has (p, b) s k → b < bound → (e.0.0.0.0 ≡ p) × (e.0.0.0.1 < bound) × (b ≤ e.0.0.0.1)
-  of_class e found s k b there less =
-      between place_cmp place_exact e.0.0.0 p bound b (before_class e (p, bound) found.low)
-      (λ h. is_not_less (entry_cmp e ((((p, b), 1), s / 1), k)) (found.greatest ((((p, b), 1), s / 1), k) (low_entry s k b less) (there 1 (inl refl))) (in_class e ((((p, b), 1), s / 1), k) h))
-
-  pub class_low : (e : Key) → IsGreatestBelow entry_cmp has (first_of_class (p, bound)) e → e.0.0.0.0 ≡ p → e.0.0.0.1 < bound
-  class_low e found same =
-      let low : class_cmp e.0.0.0 (p, bound) ≡ Less = before_class e (p, bound) found.low in
-      lt_of e.0.0.0.1 bound (sym (ap (λ o. ordering_then o (nat_cmp e.0.0.0.1 bound)) (ap (λ x. place_cmp x p) same ∙ place_itself p)) ∙ low)
+    pub block_newest : e.0.0 ≡ sized → (k : ℕ) → e.1 < k → has ((sized, e.0.1), k) ≡ true → ⊥
+    block_newest same k less there =
+        stays_below e.0.1 k (block_low same) there (same_then block_cmp block_exact e (sized, e.0.1) k (same_pair e.0 (sized, e.0.1) same refl) less)
 
 -- ---- the ids of a key, as a block or a place
 
 module _ {L : Type 0} (cmp : L → L → Ordering) (exact : IsExact cmp) where
-  same_key : (a b : L × ℕ) → eq_by_cmp (keyed_cmp cmp) a b ≡ true → a ≡ b
+  pub same_key : (a b : L × ℕ) → eq_by_cmp (keyed_cmp cmp) a b ≡ true → a ≡ b
   same_key a b h = (number_exact cmp exact).tied a b (is_equal (keyed_cmp cmp a b) h)
 
-  other_key : (a b : L × ℕ) → eq_by_cmp (keyed_cmp cmp) a b ≡ false → a ≡ b → ⊥
+  pub other_key : (a b : L × ℕ) → eq_by_cmp (keyed_cmp cmp) a b ≡ false → a ≡ b → ⊥
   other_key a b h same = let e : true ≡ false = sym (ap is_eq (ap (λ x. keyed_cmp cmp a x) (sym same) ∙ (number_exact cmp exact).itself a)) ∙ h in cc
 
   below_upper : (key : L × ℕ) (below : Option ℕ) (k : ℕ) → IsBelow below k → keyed_cmp (keyed_cmp cmp) (key, k) (upper_of key below) ≡ Less
@@ -183,18 +182,40 @@ module _ {K : Type 0} (cmp : K → K → Ordering) (has now : K → Bool) (e : K
     | false ↦ λ _. there
   ] refl
 
+-- a request of another shape, where the entry that goes is none of its own
+pub taken_spares : (has now : Key → Bool) (place : DirSector) (shape other : ℕ × ℕ) (id span unit : ℕ) (mine yours : Block) → ((k : ℕ) → (mine, k) ≡ entry_at place shape k span unit) → ((k : ℕ) → (yours, k) ≡ entry_at place other k span unit) → eq_by_cmp block_cmp yours mine ≡ false
+    → Takes entry_cmp has (mine, id) now → Spares place id has now other
+taken_spares has now place shape other id span unit mine yours is its apart takes size sized there =
+    taken_but entry_cmp has now (mine, id) entry_exact (entry_at place other id size sized) takes (λ same.
+    let whole : entry_at place other id size sized ≡ entry_at place shape id span unit = same ∙ is id in
+    let spans : size ≡ span = ap (λ (q : Key). q.0.0.0.0.1) whole in
+    let units : sized ≡ unit = ap (λ (q : Key). q.0.0.1) whole in
+    let there : entry_at place other id span unit ≡ (mine, id) = subst (λ (u : ℕ). entry_at place other id span u ≡ (mine, id)) units (subst (λ (u : ℕ). entry_at place other id u sized ≡ (mine, id)) spans same) in
+    other_key sized_cmp sized_exact yours mine apart (ap (λ (q : Key). q.0) (its id ∙ there))) there
+
+pub on_ok : {T E : Type 0} (r : Result T E) (P Q : Type 0) → (P → Q) → OnOk r P → OnOk r Q
+on_ok (Ok x) P Q to h = to h
+on_ok (Err x) P Q to h = tt
+
+-- entries stay
+abbrev Stays : (Key → Bool) → (Key → Bool) → Type 0
+Stays old new = (q : Key) → old q ≡ true → new q ≡ true
+
 -- a request that was put into its block of each size in turn
-pub all_sizes : (class : Class) (sectors id : ℕ) (a b c d : Block) (one two three four : Key → Bool) → a ≡ ((class, 1), sectors / 1) → b ≡ ((class, 16), sectors / 16) → c ≡ ((class, 256), sectors / 256) → d ≡ ((class, 4096), sectors / 4096)
-    → one (a, id) ≡ true → two (b, id) ≡ true → three (c, id) ≡ true → four (d, id) ≡ true
-    → ((q : Key) → one q ≡ true → two q ≡ true) → ((q : Key) → two q ≡ true → three q ≡ true) → ((q : Key) → three q ≡ true → four q ≡ true) → IsInClass four class sectors id
-all_sizes class sectors id a b c d one two three four at_a at_b at_c at_d in_a in_b in_c in_d to_two to_three to_four unit (inl is) =
-    subst (λ (u : ℕ). four (((class, u), sectors / u), id) ≡ true) (sym is) (to_four (((class, 1), sectors / 1), id) (to_three (((class, 1), sectors / 1), id) (to_two (((class, 1), sectors / 1), id) (subst (λ (x : Block). one (x, id) ≡ true) at_a in_a))))
-all_sizes class sectors id a b c d one two three four at_a at_b at_c at_d in_a in_b in_c in_d to_two to_three to_four unit (inr (inl is)) =
-    subst (λ (u : ℕ). four (((class, u), sectors / u), id) ≡ true) (sym is) (to_four (((class, 16), sectors / 16), id) (to_three (((class, 16), sectors / 16), id) (subst (λ (x : Block). two (x, id) ≡ true) at_b in_b)))
-all_sizes class sectors id a b c d one two three four at_a at_b at_c at_d in_a in_b in_c in_d to_two to_three to_four unit (inr (inr (inl is))) =
-    subst (λ (u : ℕ). four (((class, u), sectors / u), id) ≡ true) (sym is) (to_four (((class, 256), sectors / 256), id) (subst (λ (x : Block). three (x, id) ≡ true) at_c in_c))
-all_sizes class sectors id a b c d one two three four at_a at_b at_c at_d in_a in_b in_c in_d to_two to_three to_four unit (inr (inr (inr is))) =
-    subst (λ (u : ℕ). four (((class, u), sectors / u), id) ≡ true) (sym is) (subst (λ (x : Block). four (x, id) ≡ true) at_d in_d)
+module _ (place : DirSector) (shape : ℕ × ℕ) (id : ℕ) where
+  abbrev Stands : (Key → Bool) → ℕ → ℕ → Type 0
+  Stands has span unit = has (entry_at place shape id span unit) ≡ true
+
+  pub all_units : (span : ℕ) (one two three four : Key → Bool) → Stands one span 1 → Stands two span 16 → Stands three span 256 → Stands four span 4096 → Stays one two → Stays two three → Stays three four → (unit : ℕ) → IsUnit unit → Stands four span unit
+  all_units span one two three four a b c d to_two to_three to_four unit (inl is) =
+      subst (Stands four span) (sym is) (to_four (entry_at place shape id span 1) (to_three (entry_at place shape id span 1) (to_two (entry_at place shape id span 1) a)))
+  all_units span one two three four a b c d to_two to_three to_four unit (inr (inl is)) = subst (Stands four span) (sym is) (to_four (entry_at place shape id span 16) (to_three (entry_at place shape id span 16) b))
+  all_units span one two three four a b c d to_two to_three to_four unit (inr (inr (inl is))) = subst (Stands four span) (sym is) (to_four (entry_at place shape id span 256) c)
+  all_units span one two three four a b c d to_two to_three to_four unit (inr (inr (inr is))) = subst (Stands four span) (sym is) d
+
+  pub all_spans : (one two : Key → Bool) → ((unit : ℕ) → IsUnit unit → Stands one 1 unit) → ((unit : ℕ) → IsUnit unit → Stands two 16 unit) → Stays one two → IsIn two place shape id
+  all_spans one two a b to_two span (inl is) unit size = subst (λ (u : ℕ). Stands two u unit) (sym is) (to_two (entry_at place shape id 1 unit) (a unit size))
+  all_spans one two a b to_two span (inr is) unit size = subst (λ (u : ℕ). Stands two u unit) (sym is) (b unit size)
 
 -- ---- of two ids the greater
 
@@ -219,7 +240,7 @@ low_both below (Some a) (Some b) l r = elim (nat_lt a b) as (λ less. nat_lt a b
   | false ↦ λ e. grind (arith, e, l, r)
 ] refl
 
--- ---- blocks of sectors
+-- ---- blocks of bios and of sectors
 
 -- blocks of the next size are a 16th as many
 pub blocks_up : (unit end s : ℕ) → IsUnit unit → end % 16 ≡ 0 → s / unit < end → s / (unit * 16) < end / 16
@@ -228,35 +249,19 @@ blocks_up unit end s (inr (inl is)) whole less = subst (λ (u : ℕ). s / u < en
 blocks_up unit end s (inr (inr (inl is))) whole less = subst (λ (u : ℕ). s / u < end → s / (u * 16) < end / 16) (sym is) (λ (h : s / 256 < end). let g : s / 4096 < end / 16 = omega arith in g) less
 blocks_up unit end s (inr (inr (inr is))) whole less = subst (λ (u : ℕ). s / u < end → s / (u * 16) < end / 16) (sym is) (λ (h : s / 4096 < end). let g : s / 65536 < end / 16 = omega arith in g) less
 
-pub unit_up : (unit end : ℕ) → IsUnit unit → 0 < end → end % 16 ≡ 0 → end * unit < 65536 → IsUnit (unit * 16)
-unit_up unit end (inl is) some whole small = inr (inl (ap (λ u. u * 16) is))
-unit_up unit end (inr (inl is)) some whole small = inr (inr (inl (ap (λ u. u * 16) is)))
-unit_up unit end (inr (inr (inl is))) some whole small = inr (inr (inr (ap (λ u. u * 16) is)))
-unit_up unit end (inr (inr (inr is))) some whole small = let h : end * 4096 < 65536 = subst (λ (u : ℕ). end * u < 65536) is small in absurd (omega arith)
+pub unit_up : (unit : ℕ) → IsUnit unit → unit < 4096 → IsUnit (unit * 16)
+unit_up unit (inl is) less = inr (inl (ap (λ u. u * 16) is))
+unit_up unit (inr (inl is)) less = inr (inr (inl (ap (λ u. u * 16) is)))
+unit_up unit (inr (inr (inl is))) less = inr (inr (inr (ap (λ u. u * 16) is)))
+unit_up unit (inr (inr (inr is))) less = absurd (omega arith)
 
-pub small_up : (unit end : ℕ) → IsUnit unit → end % 16 ≡ 0 → end * unit < 65536 → end / 16 * (unit * 16) < 65536
-small_up unit end (inl is) whole small = let h : end * 1 < 65536 = subst (λ (u : ℕ). end * u < 65536) is small in let g : end / 16 * 16 < 65536 = omega arith in subst (λ (u : ℕ). end / 16 * (u * 16) < 65536) (sym is) g
-small_up unit end (inr (inl is)) whole small = let h : end * 16 < 65536 = subst (λ (u : ℕ). end * u < 65536) is small in let g : end / 16 * 256 < 65536 = omega arith in subst (λ (u : ℕ). end / 16 * (u * 16) < 65536) (sym is) g
-small_up unit end (inr (inr (inl is))) whole small = let h : end * 256 < 65536 = subst (λ (u : ℕ). end * u < 65536) is small in let g : end / 16 * 4096 < 65536 = omega arith in subst (λ (u : ℕ). end / 16 * (u * 16) < 65536) (sym is) g
-small_up unit end (inr (inr (inr is))) whole small = let h : end * 4096 < 65536 = subst (λ (u : ℕ). end * u < 65536) is small in let g : end / 16 * 65536 < 65536 = omega arith in subst (λ (u : ℕ). end / 16 * (u * 16) < 65536) (sym is) g
+pub span_up : (span : ℕ) → IsSpan span → span < 16 → IsSpan (span * 16)
+span_up span (inl is) less = inr (ap (λ u. u * 16) is)
+span_up span (inr is) less = absurd (omega arith)
 
-pub unit_range : (unit : ℕ) → IsUnit unit → (0 < unit) × (unit ≤ 4096)
-unit_range unit (inl is) = (omega arith, omega arith)
-unit_range unit (inr (inl is)) = (omega arith, omega arith)
-unit_range unit (inr (inr (inl is))) = (omega arith, omega arith)
-unit_range unit (inr (inr (inr is))) = (omega arith, omega arith)
-
-pub end_range : (unit end : ℕ) → IsUnit unit → end * unit < 65536 → end < 65536
-end_range unit end (inl is) small = let h : end * 1 < 65536 = subst (λ (u : ℕ). end * u < 65536) is small in omega arith
-end_range unit end (inr (inl is)) small = let h : end * 16 < 65536 = subst (λ (u : ℕ). end * u < 65536) is small in omega arith
-end_range unit end (inr (inr (inl is))) small = let h : end * 256 < 65536 = subst (λ (u : ℕ). end * u < 65536) is small in omega arith
-end_range unit end (inr (inr (inr is))) small = let h : end * 4096 < 65536 = subst (λ (u : ℕ). end * u < 65536) is small in omega arith
-
-pub small_down : (unit end : ℕ) → IsUnit unit → end * unit < 65536 → (end - 1) * unit < 65536
-small_down unit end (inl is) small = let h : end * 1 < 65536 = subst (λ (u : ℕ). end * u < 65536) is small in let g : (end - 1) * 1 < 65536 = omega arith in subst (λ (u : ℕ). (end - 1) * u < 65536) (sym is) g
-small_down unit end (inr (inl is)) small = let h : end * 16 < 65536 = subst (λ (u : ℕ). end * u < 65536) is small in let g : (end - 1) * 16 < 65536 = omega arith in subst (λ (u : ℕ). (end - 1) * u < 65536) (sym is) g
-small_down unit end (inr (inr (inl is))) small = let h : end * 256 < 65536 = subst (λ (u : ℕ). end * u < 65536) is small in let g : (end - 1) * 256 < 65536 = omega arith in subst (λ (u : ℕ). (end - 1) * u < 65536) (sym is) g
-small_down unit end (inr (inr (inr is))) small = let h : end * 4096 < 65536 = subst (λ (u : ℕ). end * u < 65536) is small in let g : (end - 1) * 4096 < 65536 = omega arith in subst (λ (u : ℕ). (end - 1) * u < 65536) (sym is) g
+pub is_unit : (span : ℕ) → IsSpan span → IsUnit span
+is_unit span (inl is) = inl is
+is_unit span (inr is) = inr (inl is)
 
 -- a number below the end, and not the last below it
 pub not_last : (n end : ℕ) → n < end → (n ≡ end - 1 → ⊥) → n < end - 1

@@ -1,6 +1,6 @@
 //! Where requests begin and end.
 
-ghost use Rattle.std.specs.Prelude.{◌≡◌, ◌<◌, ◌≤◌, ◌^◌, ℕ, true, Option, None, OnOk, OnErr, IfOk, IfSome};
+ghost use Rattle.std.specs.Prelude.{◌≡◌, ◌<◌, ◌≤◌, ◌^◌, ◌-◌, ℕ, true, Option, None, OnOk, OnErr, IfOk, IfSome};
 ghost use Rattle.ordered.specs.Ordered.{listed};
 ghost use Rattle.blk_bio.specs.Extents.{IsExtent};
 ghost use Rattle.blk_index.specs.Keys.{keyed_cmp};
@@ -10,7 +10,7 @@ ghost use Rattle.blk_index.specs.Inside.Edges.{IsListedAt, IsListedAs, KeepsBut,
 ghost use Rattle.blk_sched.specs.Meaning.{Waiting};
 
 use crate::ids::greater;
-use crate::shapes::{Place, Shapes, is_place};
+use crate::shapes::{Place, Shape, Shapes, is_place};
 use blk_bio::{Dir, Extent, Side};
 use ordered::Ordered;
 use std::alloc::{AllocError, Allocator, Global};
@@ -107,11 +107,11 @@ impl<A: Allocator + Clone> Edge<A> {
         ensures kept { KeepsBut spot self.old self.new }
     {
         let (place, id) = spot;
-        let class = (place, extent.bios());
-        match self.others.put(class, extent.sectors(), id) {
+        let shape = shape_of(extent);
+        match self.others.put(place, shape, id) {
             Ok(()) => Ok(()),
             Err(why) => {
-                self.others.take(class, extent.sectors(), id);
+                self.others.take(place, shape, id, None);
                 Err(why)
             }
         }
@@ -124,17 +124,14 @@ impl<A: Allocator + Clone> Edge<A> {
     {
         self.ones.take(spot);
         if !self.others.is_empty() {
-            let (place, id) = spot;
-            self.others
-                .take((place, extent.bios()), extent.sectors(), id);
+            self.others.take(spot.0, shape_of(extent), spot.1, None);
         }
     }
 
     /// Lists a request with more bios than before. Where memory is refused, it stays as it was listed.
     #[inline(always)]
     pub fn relist(&mut self, spot: Spot, before: &Extent, after: &Extent)
-        requires place { spot.0.1 < 2 ^ 63 }
-        requires more { before.now.bios < after.now.bios }
+        requires { spot.0.1 < 2 ^ 63 }
         ensures kept { KeepsBut spot self.old self.new }
         ensures own { KeepsOwn spot after.now self.old self.new }
     {
@@ -148,8 +145,7 @@ impl<A: Allocator + Clone> Edge<A> {
     #[cold]
     #[inline(never)]
     fn relist_among(&mut self, spot: Spot, before: &Extent, after: &Extent)
-        requires place { spot.0.1 < 2 ^ 63 }
-        requires more { before.now.bios < after.now.bios }
+        requires { spot.0.1 < 2 ^ 63 }
         ensures kept { KeepsBut spot self.old self.new }
         ensures own { KeepsOwn spot after.now self.old self.new }
     {
@@ -157,12 +153,19 @@ impl<A: Allocator + Clone> Edge<A> {
         if newest_one(&self.ones, place, None) == Some(id) {
             return;
         }
-        let Ok(()) = self.others.put((place, after.bios()), after.sectors(), id) else {
+        let shape = shape_of(after);
+        let Ok(()) = self.others.put(place, shape, id) else {
             return;
         };
-        self.others
-            .take((place, before.bios()), before.sectors(), id);
+        self.others.take(place, shape_of(before), id, Some(shape));
     }
+}
+
+/// How many bios and how many sectors a request has.
+fn shape_of(extent: &Extent) -> Shape
+    ensures { result ≡ (extent.now.bios, extent.now.end - extent.now.first) }
+{
+    (extent.bios(), extent.sectors())
 }
 
 /// The newest of a place, by its id, below a bound if there is one.

@@ -8,20 +8,22 @@ ghost use Rattle.blk_index.specs.Inside.Entries.{entry_cmp, entry_total};
 use std::cmp::Ordering;
 use std::marker::Model;
 
-/// A direction and a sector, how many bios a request there has, how many whole blocks of a size its sectors fill, and its id; in order by
-/// these. Seen as pairs, the last of which is of all before and the id.
+/// A direction and a sector, how many whole blocks of a size the bios of a request there fill, how many of a size its sectors fill, and its id; in
+/// order by these. Seen as pairs, the last of which is of all before and the id.
 #[derive(Clone, Copy)]
 pub struct Entry {
     /// Whether the direction writes.
     pub write: bool,
     /// The sector.
     pub sector: u64,
-    /// How many bios it has.
+    /// The size of a block of bios.
+    pub span: u64,
+    /// How many of these it fills.
     pub bios: u64,
-    /// The size of a block, in sectors.
+    /// The size of a block of sectors.
     pub unit: u64,
-    /// How many blocks it fills.
-    pub blocks: u64,
+    /// How many of these it fills.
+    pub sectors: u64,
     /// Its id.
     pub id: u64,
 }
@@ -31,9 +33,9 @@ impl Model for Entry {
 
     ghost Value = { Key };
 
-    ghost view = { λ s. (((((s.write, s.sector), s.bios), s.unit), s.blocks), s.id) };
+    ghost view = { λ s. ((((((s.write, s.sector), s.span), s.bios), s.unit), s.sectors), s.id) };
 
-    ghost inverse = { λ p. record { write = p.0.0.0.0.0; sector = p.0.0.0.0.1; bios = p.0.0.0.1; unit = p.0.0.1; blocks = p.0.1; id = p.1 } };
+    ghost inverse = { λ p. record { write = p.0.0.0.0.0.0; sector = p.0.0.0.0.0.1; span = p.0.0.0.0.1; bios = p.0.0.0.1; unit = p.0.0.1; sectors = p.0.1; id = p.1 } };
 }
 
 impl PartialEq for Entry {
@@ -74,9 +76,10 @@ impl Ord for Entry {
             .write
             .cmp(&other.write)
             .then(self.sector.cmp(&other.sector));
-        let class = place.then(self.bios.cmp(&other.bios));
+        let spanned = place.then(self.span.cmp(&other.span));
+        let class = spanned.then(self.bios.cmp(&other.bios));
         let sized = class.then(self.unit.cmp(&other.unit));
-        let block = sized.then(self.blocks.cmp(&other.blocks));
+        let block = sized.then(self.sectors.cmp(&other.sectors));
         block.then(self.id.cmp(&other.id))
     }
 }

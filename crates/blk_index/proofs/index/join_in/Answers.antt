@@ -1,11 +1,8 @@
 use Rattle.std.proofs.Common.{ap, ◌∙◌}
 use Rattle.blk_bio.specs.declared.request.Side.{Side}
 use Rattle.blk_index.specs.Inside.Spots.{at_of}
-use Rattle.blk_index.proofs.Joining.{longer, edge_ahead, edge_joined, edge_beside}
+use Rattle.blk_index.proofs.Joining.{edge_ahead, edge_joined, edge_beside}
 use Rattle.blk_index.proofs.index.join_in.Goals as goal
-
-pub relist-requires-clause-more : goal.relist-requires-clause-more
-relist-requires-clause-more g c = longer c.args.waiting.now c.args.waiting.now c.args.id c.args.now c.args.side c.args.newcomer.now c.in-Some.queued.now c.in-Some.ensures.value c.sectors.ensures.is_extent c.requires.touch c.joined-after.result c.joined-after.ensures
 
 pub returns-clause-edge : goal.returns-clause-edge
 returns-clause-edge g c =

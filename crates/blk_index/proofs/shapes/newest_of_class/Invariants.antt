@@ -1,4 +1,4 @@
-use Rattle.std.proofs.Common.{◌<◌, ◌≤◌, ◌*◌, ◌/◌, ℕ}
+use Rattle.std.proofs.Common.{◌<◌, ◌≤◌, ◌/◌, ℕ}
 use Rattle.std.specs.Prelude.{IfSome}
 use Rattle.ordered.specs.Ordered.{listed}
 use Rattle.blk_index.specs.Inside.Spots.{IsBelow}
@@ -11,7 +11,7 @@ abbrev pub invariant-loop-end : goal.invariant-loop-end
 invariant-loop-end g l = record {
   low : IfSome l.best (IsBelow l.below);
   size : IsUnit l.unit;
-  small : l.end * l.unit < 65536;
+  small : l.end < 65536;
   rest : (k s : ℕ) → StandsBetween l.below l.best k → IsInClass (listed entry_cmp l.entries) l.class s k → s ≤ l.sectors → s / l.unit < l.end;
 }
 

@@ -1,5 +1,5 @@
-use Rattle.std.proofs.Common.{◌≡◌, ◌<◌, ◌-◌, arith, inl, inr}
-use Rattle.blk_index.specs.Inside.Shapes.{entries_in}
+use Rattle.std.proofs.Common.{◌≡◌, ◌≤◌, ◌-◌, ℕ, inl, inr, sym, subst}
+use Rattle.blk_index.specs.Inside.Shapes.{entries_in, IsIn}
 use Rattle.blk_index.proofs.Edged.{listed_still, listed_but, listed_in}
 use Rattle.blk_index.proofs.edges.Edge.relist_among.Goals as goal
 
@@ -13,7 +13,7 @@ pub returns-clause-kept : goal.returns-clause-kept
 returns-clause-kept g c = λ p k s b other there. elim there [
   | inl one ↦ inl one
   | inr listed ↦
-      inr (listed_but (entries_in c.put.new.self) (entries_in c.take.new.self) (c.args.spot.0, c.bios-2.result) c.args.spot.1 p k s b c.take.ensures other
+      inr (listed_but (entries_in c.put.new.self) (entries_in c.take.new.self) c.args.spot.0 c.args.spot.1 p k s b c.take.ensures.kept other
       (listed_still (entries_in c.args.self.now.others) (entries_in c.put.new.self) p k s b c.in-Ok.ensures.kept listed))
 ]
 
@@ -21,9 +21,10 @@ pub returns-clause-own : goal.returns-clause-own
 returns-clause-own g c = λ s b more longer there. elim there [
   | inl one ↦ inl one
   | inr listed ↦
-      let was : c.bios-2.result ≡ c.args.before.now.bios = c.bios-2.ensures.value in
-      let is : c.bios.result ≡ c.args.after.now.bios = c.bios.ensures.value in
-      let has : c.sectors.result ≡ c.args.after.now.end - c.args.after.now.first = c.sectors.ensures.value in
-      let less : c.args.before.now.bios < c.args.after.now.bios = c.requires.more in
-      inr (listed_in (entries_in c.put.new.self) (entries_in c.take.new.self) (c.args.spot.0, c.bios-2.result) c.args.spot.1 c.args.spot.0 c.args.spot.1 c.sectors.result c.bios.result s b c.take.ensures (λ same. omega arith) c.in-Ok.ensures.ok (omega arith) (omega arith))
+      let after = c.args.after.now in
+      let put : IsIn (entries_in c.put.new.self) c.args.spot.0 c.shape_of-shape.result c.args.spot.1 = c.in-Ok.ensures.ok in
+      let shape : ℕ × ℕ = c.shape_of-shape.result in
+      let is : shape ≡ (after.bios, after.end - after.first) = c.shape_of-shape.ensures in
+      inr (listed_in (entries_in c.put.new.self) (entries_in c.take.new.self) c.args.spot.0 c.args.spot.1 shape s b c.take.ensures.spared put
+      (subst (λ (x : ℕ × ℕ). x.1 ≤ s) (sym is) more) (subst (λ (x : ℕ × ℕ). x.0 ≤ b) (sym is) longer))
 ]
