@@ -1,11 +1,12 @@
 -- The commands that are on time, as a list of their own.
-use Rattle.std.proofs.Common.{◌≡◌, ◌<◌, ◌≤◌, ℕ, ◌+◌, cond, not, Bool, true, false, ◌==◌, ◌&&◌, List, [], ◌∷◌, length, get_or, map, filter, count_by, ℤ, pos, ◌≤ℤ◌, inl, inr, arith, refl, ap, sym, ◌∙◌, subst}
-use Rattle.std.specs.List.{zip, All}
+use Rattle.std.proofs.Common.{◌≡◌, ◌≢◌, ◌<◌, ◌≤◌, ℕ, ◌+◌, cond, not, Bool, true, false, ◌==◌, ◌&&◌, List, [], ◌∷◌, length, get_or, map, filter, count_by, ℤ, pos, ◌≤ℤ◌, inl, inr, arith, refl, ap, sym, ◌∙◌, subst}
+use Rattle.std.specs.List.{zip, All, AllPairs}
 use Rattle.std.proofs.lemmas.Int.{ints}
 use Rattle.std.proofs.lemmas.List.{get_or-map, length-map}
-use Rattle.std.proofs.lemmas.List.Sums.{count_by-le-length}
+use Rattle.std.proofs.lemmas.List.Sums.{count_by-le-length, length-filter}
 use Rattle.std.proofs.lemmas.List.Filters.{sum_by-filter_both}
 use Rattle.std.proofs.lemmas.List.Elements.{All-filter, filter_passes}
+use Rattle.std.proofs.lemmas.List.Kept.{AllPairs-filter}
 use Rattle.std.proofs.lemmas.Bool.{cases_Bool, cond-true, cond-false, and_parts, and_from, leb-true, le-leb, eqb-true}
 use Rattle.edd_commands.specs.declared.Command.{Command}
 use Rattle.edd_check.specs.declared.Window.{Window}
@@ -18,6 +19,7 @@ use Rattle.edd_oracle.proofs.Counting.{count_yes, count_no, count_along, count_m
 use Rattle.edd_oracle.proofs.Pairs.{nobody, pair_at, length_pairs, tested, untested, at_places}
 use Rattle.edd_oracle.proofs.Filled.{is_held}
 use Rattle.edd_oracle.specs.Answer.{IsBest}
+use Rattle.edd_oracle.specs.Input.{IsSolvable, IsTaken}
 use Rattle.edd_verdict.specs.Filled.{held_at, IsFilled}
 use Rattle.edd_verdict.specs.Inside.Open.{on_time_of, AreOnTime, AreFilled}
 use Rattle.edd_verdict.proofs.Holding.{held_in, filled_holds, holds_filled}
@@ -78,6 +80,27 @@ module _ (commands : List Command) (rounds : List ℕ) (steps : List Step) (lega
   on_time_at k d h =
       let within : k < length pairs = omega (arith, length-map pairs (λ p. p.0)) in
       (get_or-map (λ p. p.0) pairs k (nobody, 0) d within, get_or-map (λ p. p.1) pairs k (nobody, 0) 0 within)
+
+  -- the oracle takes them where it takes all
+  pub on_time_taken : IsTaken commands → IsTaken commands_on_time
+  on_time_taken taken =
+      let timely : Command × ℕ → Bool = λ p. is_on_time p.0 p.1 in
+      let at : (k : ℕ) (q : Command × ℕ) → k < length (zip commands rounds) → (get_or (zip commands rounds) k q).0 ≡ get_or commands k nobody =
+      λ k q h. ap (λ (p : Command × ℕ). p.0) (pair_at commands rounds k q nobody 0 legal.one_each (omega (arith, h, length_pairs commands rounds legal.one_each))) in
+      let solvable : All (λ (p : Command × ℕ). IsSolvable p.0) pairs =
+      All-filter timely (λ (p : Command × ℕ). IsSolvable p.0) (zip commands rounds)
+      (λ k q h. subst IsSolvable (sym (at k q h)) (taken.in_range k nobody (omega (arith, h, length_pairs commands rounds legal.one_each)))) in
+      let apart : AllPairs (λ (p q : Command × ℕ). p.0.id ≢ q.0.id) pairs =
+      AllPairs-filter (λ (p q : Command × ℕ). p.0.id ≢ q.0.id) timely (zip commands rounds)
+      (λ j k q lt h same. taken.distinct j k nobody lt (omega (arith, h, length_pairs commands rounds legal.one_each))
+      (ap (λ (c : Command). c.id) (sym (at j q (omega (arith, lt, h)))) ∙ same ∙ ap (λ (c : Command). c.id) (at k q h))) in
+      let many : length commands_on_time ≡ length pairs = length-map pairs (λ p. p.0) in
+      record {
+        few = omega (arith, taken.few, many, length-filter timely (zip commands rounds), count_by-le-length timely (zip commands rounds), length_pairs commands rounds legal.one_each);
+        in_range = λ k d h. subst IsSolvable (sym (on_time_at k d h).0) (solvable k (nobody, 0) (omega (arith, h, many)));
+        distinct = λ j k d lt h same. apart j k (nobody, 0) lt (omega (arith, h, many))
+            (ap (λ (c : Command). c.id) (sym (on_time_at j d (omega (arith, lt, h))).0) ∙ same ∙ ap (λ (c : Command). c.id) (on_time_at k d h).0);
+      }
 
   pub on_time_legal : IsLegal commands_on_time on_time_rounds steps
   unfolding places_at

@@ -22,7 +22,7 @@ mod tight;
 use around::verdicts_around;
 use edd_check::Window;
 use edd_commands::{Capacity, Command};
-use edd_oracle::solve;
+use edd_oracle::solve_taken;
 use std::alloc::{AllocError, Allocator};
 
 /// Why a late command was late, beside the commands of its schedule that were on time.
@@ -105,25 +105,18 @@ fn filled_windows<A: Allocator + Clone, B: Allocator>(
     rounds: &[u64],
     capacity: &Capacity<B>,
 ) -> Result<Vec<Window, A>, AllocError>
+    requires taken { IsTaken commands.now }
     requires legal { IsLegal commands.now rounds.now capacity.now }
     requires capacity { IsCapacity capacity.now }
     ensures { IfOk result (λ v. AreFilled commands.now rounds.now capacity.now v.items) }
 {
     let commands_on_time = on_time(alloc.clone()?, commands, rounds)?;
-    match solve(alloc.clone()?, commands_on_time.as_slice(), capacity) {
-        Ok(Some(answer)) => {
-            let found = tight::filled(
-                alloc,
-                commands_on_time.as_slice(),
-                answer.rounds.as_slice(),
-                capacity,
-            )?;
-            Ok(found)
-        }
-        Ok(None) => Ok(Vec::new(alloc)),
-        // commands within the limits of the oracle are refused only when out of memory
-        Err(_) => Err(AllocError),
-    }
+    let on_time = commands_on_time.as_slice();
+    let Some(answer) = solve_taken(alloc.clone()?, on_time, capacity)? else {
+        return Ok(Vec::new(alloc));
+    };
+    let windows = tight::filled(alloc, on_time, answer.rounds.as_slice(), capacity)?;
+    Ok(windows)
 }
 
 /// The verdict of each late command of a legal schedule, by place; a command that is on time has none.
