@@ -15,7 +15,7 @@ use Rattle.edd_figures.specs.declared.missing.Crowd.{Crowd}
 use Rattle.edd_blame.proofs.Clocks.{count_parts}
 
 -- all of a list
-count_all : {X : Type 0} (xs : List X) → count_by (λ _. true) xs ≡ length xs
+pub count_all : {X : Type 0} (xs : List X) → count_by (λ _. true) xs ≡ length xs
 count_all [] = refl
 count_all (x ∷ xs) = omega (arith, count_all xs, sum_by-cons (λ _. cond true 1 0) x xs)
 

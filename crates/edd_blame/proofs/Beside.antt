@@ -7,7 +7,7 @@ use Rattle.std.proofs.lemmas.List.{get_or-map, append-nil, take_all}
 use Rattle.std.proofs.lemmas.List.Elements.{All-append, All-filter, filter_passes, filter-append}
 use Rattle.std.proofs.lemmas.List.FromFn.{get_or-range_with_len, length-range_with_len}
 use Rattle.std.proofs.lemmas.List.Kept.{AllPairs-filter}
-use Rattle.std.proofs.lemmas.List.Sums.{sum_by-cons, sum_by-append}
+use Rattle.std.proofs.lemmas.List.Sums.{sum_by-append}
 use Rattle.std.proofs.lemmas.Bool.{cases_Bool, cases_lt, cond-true, cond-false, lt-ltb, le-ltb, ltb-false, not-true, not_from_false, not_from_true}
 use Rattle.edd_commands.specs.declared.Command.{Command}
 use Rattle.edd_commands.specs.declared.steps.Step.{Step}
@@ -20,6 +20,7 @@ use Rattle.edd_oracle.proofs.Counting.{count_none, count_yes, count_no}
 use Rattle.edd_figures.proofs.Tardy.{all_commands}
 use Rattle.edd_blame.specs.Inside.{on_time_places, late_places}
 use Rattle.edd_blame.specs.Parts.{ArePlaces, command_here, is_late_at, number_late_at, KeepsOnTime, number_saved_at, IsMostSavedAt}
+use Rattle.edd_blame.proofs.Adding.{count_all}
 use Rattle.edd_blame.proofs.Causing.{nobody}
 use Rattle.edd_blame.proofs.Clocks.{count_parts}
 use Rattle.edd_verdict.specs.Laws.{MostKeepsOnTime}
@@ -83,10 +84,6 @@ count_filter p q (x ∷ xs) =
           let same : filter p (x ∷ xs) ≡ filter p xs = cond-false (p x) (x ∷ filter p xs) (filter p xs) fails in
           ap (λ l. count_by q l) same ∙ rest ∙ sym (count_no (λ y. p y && q y) x xs (ap (λ b. b && q x) fails))
     ]
-
-count_all : {X : Type 0} (xs : List X) → count_by (λ _. true) xs ≡ length xs
-count_all [] = refl
-count_all (x ∷ xs) = omega (arith, count_all xs, sum_by-cons (λ _. cond true 1 0) x xs)
 
 pass_or_not : (b : Bool) → cond b 1 0 + cond (not b) 1 0 ≡ 1
 pass_or_not true = refl

@@ -4,6 +4,5 @@ pub mod Adding
 pub mod Stalling
 pub mod Fitting
 pub mod Parting
-pub mod Alike
 pub mod Beside
 pub mod Marking

@@ -1,5 +1,5 @@
 -- A schedule of a part and one of the whole make each other.
-use Rattle.std.proofs.Common.{◌≡◌, ◌≢◌, ◌<◌, ◌≤◌, ℕ, ◌+◌, ◌==◌, zero, suc, Bool, cond, nat_lt, List, [], ◌∷◌, length, get_or, set, map, count_by, sum_by, ◌⊎◌, inl, inr, arith, refl, ap, sym, ◌∙◌, eq-eqb, ne_eqb}
+use Rattle.std.proofs.Common.{◌≡◌, ◌≢◌, ◌<◌, ◌≤◌, ℕ, ◌+◌, ◌==◌, zero, suc, Bool, true, cond, nat_lt, List, [], ◌∷◌, length, get_or, set, map, count_by, sum_by, ◌⊎◌, inl, inr, arith, refl, ap, sym, ◌∙◌, eq-eqb, ne_eqb, subst}
 use Rattle.std.specs.List.{zip, All, AllPairs, range_with_len}
 use Rattle.std.proofs.lemmas.List.{get_or_default, get_or-set_same, get_or-set_other, length-set, get_or-map, length-map}
 use Rattle.std.proofs.lemmas.List.FromFn.{get_or-range_with_len, length-range_with_len}
@@ -12,13 +12,13 @@ use Rattle.edd_commands.specs.Capacity.{depth_at}
 use Rattle.edd_commands.specs.Schedule.{IsLegal, places_at, RoundsInRange}
 use Rattle.edd_commands.proofs.Counting.{no_places}
 use Rattle.edd_check.specs.OnTime.{number_on_time, IsMostOnTime}
-use Rattle.edd_oracle.specs.Input.{IsSolvable}
+use Rattle.edd_oracle.specs.Input.{IsSolvable, IsTaken}
 use Rattle.edd_oracle.proofs.Counting.{count_yes, count_no, count_map}
 use Rattle.edd_oracle.proofs.Pairs.{pair_at, length_pairs}
 use Rattle.edd_figures.specs.Misses.{number_late}
 use Rattle.edd_figures.proofs.Tardy.{all_commands}
 use Rattle.edd_blame.specs.Parts.{ArePlaces, command_here, is_late_at, number_late_at, IsLeastLateAt}
-use Rattle.edd_blame.proofs.Adding.{sum_map}
+use Rattle.edd_blame.proofs.Adding.{count_all, sum_map}
 use Rattle.edd_blame.proofs.Causing.{nobody}
 
 abbrev one_if : Bool → ℕ
@@ -184,6 +184,31 @@ module _ (commands : List Command) (steps : List Step) (places : List ℕ) (are 
 
   base_in : (top : ℕ) → All (λ k. k < length (range_with_len top (length commands))) places
   base_in top i d h = omega (arith, are.within i d h, length-range_with_len top (length commands))
+
+  -- the oracle takes the part where it takes the whole
+  pub part_taken : IsTaken commands → IsTaken part
+  part_taken taken = record {
+    few =
+        (let all : List ℕ = range_with_len 0 (length commands) in
+        let few = count_at_places (λ _. true) all places record { within = base_in 0; once = are.once } in
+        omega (arith, taken.few, part_long, few, count_all places, count_all all, length-range_with_len 0 (length commands)));
+    in_range = λ j c h. let low : j < length places = omega (arith, h, part_long) in subst IsSolvable (sym (part_at j c 0 low)) (taken.in_range (get_or places j 0) nobody (are.within j 0 low));
+    distinct =
+        λ i j c lt h same.
+        let high : j < length places = omega (arith, h, part_long) in
+        let low : i < length places = omega (arith, lt, high) in
+        let a : ℕ = get_or places i 0 in
+        let b : ℕ = get_or places j 0 in
+        let alike : (command_here commands a).id ≡ (command_here commands b).id =
+        ap (λ (x : Command). x.id) (sym (part_at i c 0 low)) ∙ same ∙ ap (λ (x : Command). x.id) (part_at j c 0 high) in
+        elim (cases_lt a b) [
+          | inl less ↦ taken.distinct a b nobody less (are.within j 0 high) alike
+          | inr over ↦ elim (cases_lt b a) [
+            | inl less ↦ taken.distinct b a nobody less (are.within i 0 low) (sym alike)
+            | inr under ↦ are.once i j 0 lt high (omega (arith, over, under))
+          ]
+        ];
+  }
 
   pub spread_own : (top : ℕ) (rs : List ℕ) → length rs ≡ length places → (j d : ℕ) → j < length places → get_or (spread top rs) (get_or places j d) 0 ≡ get_or rs j 0
   spread_own top rs same j d h = put_own places rs (range_with_len top (length commands)) (base_in top) are.once same j d h

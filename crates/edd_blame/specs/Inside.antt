@@ -31,7 +31,3 @@ on_time_places commands rounds = filter (λ k. not (is_late_at commands rounds k
 
 unfoldable pub late_places : List Command → List ℕ → List ℕ → List ℕ
 late_places commands rounds places = filter (is_late_at commands rounds) places
-
--- when a command is released and due, whatever its id
-abbrev pub release_and_due : Command → ℕ × ℕ
-release_and_due c = (c.release, c.due)

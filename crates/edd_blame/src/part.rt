@@ -4,10 +4,10 @@ ghost use Rattle.std.specs.Prelude.{◌≡◌, IfOk, length, map};
 ghost use Rattle.edd_commands.specs.Schedule.{IsLegal};
 ghost use Rattle.edd_oracle.specs.Input.{IsTaken};
 ghost use Rattle.edd_blame.specs.Parts.{command_here, ArePlaces, IsLeastLateAt, IsMostSavedAt, IsLeastLateBeside, marked_places, other_places};
-ghost use Rattle.edd_blame.specs.Inside.{on_time_places, late_places, release_and_due};
+ghost use Rattle.edd_blame.specs.Inside.{on_time_places, late_places};
 
 use edd_commands::{Capacity, Command};
-use edd_oracle::most_on_time;
+use edd_oracle::most_on_time_taken;
 use edd_verdict::law_of_spares;
 use std::alloc::{AllocError, Allocator};
 
@@ -20,28 +20,9 @@ fn commands_at<A: Allocator>(
     requires { ArePlaces (length commands.now) places.now }
     ensures { IfOk result (λ v. v.items ≡ map (command_here commands.now) places.now) }
 {
-    let mut part = Vec::new(alloc);
+    let mut part = Vec::with_capacity(alloc, places.len())?;
     for place in places {
         part.push(commands[*place])?;
-    }
-    Ok(part)
-}
-
-/// The same with new ids, which rise: the oracle looks through a set for an id that stands twice where they don't.
-fn numbered_at<A: Allocator>(
-    alloc: A,
-    commands: &[Command],
-    places: &[usize],
-) -> Result<Vec<Command, A>, AllocError>
-    requires { ArePlaces (length commands.now) places.now }
-    ensures { IfOk result (λ v. map release_and_due v.items ≡ map (λ k. release_and_due (command_here commands.now k)) places.now) }
-{
-    let mut part = Vec::with_capacity(alloc, places.len())?;
-    for (number, place) in places.iter().enumerate() {
-        part.push(Command {
-            id: number as u64,
-            ..commands[*place]
-        })?;
     }
     Ok(part)
 }
@@ -125,10 +106,7 @@ pub fn least_late_at<A: Allocator + Clone, B: Allocator>(
     // brings the prover the capacity's invariant
     let _ = capacity.at(0);
     let part = commands_at(alloc.clone()?, commands, places)?;
-    // what the oracle takes as a whole it takes in part, so that it is refused only when out of memory
-    let Ok(answer) = most_on_time(alloc, part.as_slice(), capacity) else {
-        return Err(AllocError);
-    };
+    let answer = most_on_time_taken(alloc, part.as_slice(), capacity)?;
     Ok(places.len() as u64 - answer.on_time)
 }
 
@@ -173,11 +151,8 @@ pub fn most_saved_at<A: Allocator + Clone, B: Allocator>(
     let on_time = beside.as_slice().len() as u64;
     let late = late_places(alloc.clone()?, commands, rounds, places)?;
     beside.extend_from_slice(late.as_slice())?;
-    let part = numbered_at(alloc.clone()?, commands, beside.as_slice())?;
-    // what the oracle takes as a whole it takes in part, so that it is refused only when out of memory
-    let Ok(answer) = most_on_time(alloc, part.as_slice(), capacity) else {
-        return Err(AllocError);
-    };
+    let part = commands_at(alloc.clone()?, commands, beside.as_slice())?;
+    let answer = most_on_time_taken(alloc, part.as_slice(), capacity)?;
     Ok(answer.on_time - on_time)
 }
 
@@ -197,10 +172,7 @@ pub fn least_late_beside<A: Allocator + Clone, B: Allocator>(
     law_of_spares();
     let parts = parted(alloc.clone()?, marks)?;
     let others = least_late_at(alloc.clone()?, commands, capacity, parts.others.as_slice())?;
-    // commands that the oracle takes are refused only when out of memory
-    let Ok(answer) = most_on_time(alloc, commands, capacity) else {
-        return Err(AllocError);
-    };
+    let answer = most_on_time_taken(alloc, commands, capacity)?;
     let late = commands.len() as u64 - answer.on_time;
     Ok(late - others)
 }
