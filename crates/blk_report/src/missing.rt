@@ -3,7 +3,7 @@
 ghost use Rattle.std.specs.Prelude.{◌≡◌, ◌≤◌, ◌<◌, ◌↔◌, ◌++◌, IfOk, OnOk};
 ghost use Rattle.blk_report.specs.Misses.{IsTallied, tally_parts, misses_parts};
 
-use crate::outstaying::overdue;
+use crate::outstaying::count_overdue;
 use answer::names::{AVOIDABLE, COMMANDS, LATE, OVERDUE, SPARE, UNAVOIDABLE, WAITING};
 use answer::{Answer, Value, member};
 use blk_trace::Trace;
@@ -54,14 +54,8 @@ pub fn misses<A: Allocator + Clone>(trace: &Trace<A>) -> Result<Missed<A>, Alloc
     let rounds = trace.rounds()?;
     let capacity = trace.capacity()?;
     let alloc = commands.allocator().clone()?;
-    let missed = misses_of(
-        alloc.clone()?,
-        commands.as_slice(),
-        rounds.as_slice(),
-        &capacity,
-    )?;
+    let missed = misses_of(alloc, commands.as_slice(), rounds.as_slice(), &capacity)?;
     let counts = missed.counts;
-    let overdue = overdue(alloc, trace)?.len() as u64;
     let tally = Tally {
         commands: counts.commands,
         late: counts.late,
@@ -69,7 +63,7 @@ pub fn misses<A: Allocator + Clone>(trace: &Trace<A>) -> Result<Missed<A>, Alloc
         avoidable: counts.avoidable,
         spare: counts.spare,
         waiting: trace.bios_waiting(),
-        overdue,
+        overdue: count_overdue(trace),
     };
     Ok(Missed {
         tally,

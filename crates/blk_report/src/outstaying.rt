@@ -1,11 +1,11 @@
-//! The bios that wait past the round in which their request is due.
+//! How many bios wait past the round in which their request is due.
 
-ghost use Rattle.std.specs.Prelude.{◌≡◌, ◌++◌, IfOk, OnOk};
+ghost use Rattle.std.specs.Prelude.{◌≡◌, length};
 ghost use Rattle.blk_report.specs.Overdue.{is_overdue, bios_under, overdue_of};
 
-use blk_bio::{Bio, Request};
+use blk_bio::Request;
 use blk_trace::{Event, Trace};
-use std::alloc::{AllocError, Allocator};
+use std::alloc::Allocator;
 
 /// Whether a request waits under the id at the end, in a round after the one in which it is due.
 fn is_overdue<A: Allocator + Clone>(trace: &Trace<A>, id: u64) -> bool
@@ -17,31 +17,25 @@ fn is_overdue<A: Allocator + Clone>(trace: &Trace<A>, id: u64) -> bool
     }
 }
 
-/// Adds the bios that enter by the event, where that is under such an id.
-fn add_overdue<A: Allocator + Clone>(
-    bios: &mut Vec<Bio, A>,
-    trace: &Trace<A>,
-    event: &Event<Request<A>>,
-) -> Result<(), AllocError>
-    ensures { OnOk result (bios.new.items ≡ bios.old.items ++ bios_under (is_overdue trace.now.setup trace.now.events) event.now) }
+/// How many bios enter by the event under such an id.
+fn overdue_by<A: Allocator + Clone>(trace: &Trace<A>, event: &Event<Request<A>>) -> u64
+    ensures { result ≡ length (bios_under (is_overdue trace.now.setup trace.now.events) event.now) }
 {
     match event.enters() {
-        Some((id, request)) if is_overdue(trace, id) => bios.extend_from_slice(request.bios()),
-        _ => Ok(()),
+        Some((id, request)) if is_overdue(trace, id) => request.bios().len() as u64,
+        _ => 0,
     }
 }
 
-/// The bios that wait at the end, in a round after the one in which their request is due, in the order in
-/// which they entered. Fails only when out of memory. The time grows as the number of events.
-pub(crate) fn overdue<A: Allocator + Clone>(
-    alloc: A,
-    trace: &Trace<A>,
-) -> Result<Vec<Bio, A>, AllocError>
-    ensures { IfOk result (λ v. v.items ≡ overdue_of trace.now.setup trace.now.events) }
+/// How many bios wait at the end, in a round after the one in which their request is due. It walks the events once and takes no memory.
+pub(crate) fn count_overdue<A: Allocator + Clone>(trace: &Trace<A>) -> u64
+    ensures { result ≡ length (overdue_of trace.now.setup trace.now.events) }
 {
-    let mut bios = Vec::new(alloc);
+    // brings the prover what limits are
+    let _ = trace.setup().limits().max_segments();
+    let mut bios = 0;
     for event in trace.events() {
-        add_overdue(&mut bios, trace, event)?;
+        bios += overdue_by(trace, event);
     }
-    Ok(bios)
+    bios
 }

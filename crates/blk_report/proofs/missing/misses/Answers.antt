@@ -1,4 +1,4 @@
-use Rattle.std.proofs.Common.{rules, ◌≡◌, ◌∙◌, ℕ, List, length, ap, subst}
+use Rattle.std.proofs.Common.{◌∙◌, ℕ, List, subst}
 use Rattle.edd_commands.specs.declared.Command.{Command}
 use Rattle.edd_commands.specs.declared.steps.Step.{Step}
 use Rattle.edd_figures.specs.declared.missing.Counts.{Counts}
@@ -24,9 +24,8 @@ returns g c =
     subst (λ (x : List Step). HasSpares cs rs x m.late m.spare) c.in_ok-capacity.ensures.steps
     (subst (λ (x : List ℕ). HasSpares cs x c.in_ok-capacity.capacity m.late m.spare) (c.as_slice-2.ensures.value ∙ c.in_ok-rounds.ensures.rounds)
     (subst (λ (x : List Command). HasSpares x c.as_slice-2.result.now c.in_ok-capacity.capacity m.late m.spare) (c.as_slice.ensures.value ∙ c.in_ok-commands.ensures.commands) c.in_ok-missed.ensures.spares)) in
-    let long : c.len-overdue.result ≡ length c.in_ok-overdue.field-0.items = search rules in
     record {
-      tallied = record { misses = told; spares = spare; waiting = c.bios_waiting.ensures.waiting; overdue = long ∙ ap length c.in_ok-overdue.ensures };
+      tallied = record { misses = told; spares = spare; waiting = c.bios_waiting.ensures.waiting; overdue = c.count_overdue.ensures };
       at_most = c.in_ok-missed.ensures.at_most;
       some = c.in_ok-missed.ensures.some;
     }
