@@ -1,9 +1,8 @@
 -- What counts say of the bios and the commands that are counted.
-use Rattle.std.proofs.Common.{◌==◌, ◌&&◌, ◌≡◌, ◌∙◌, ◌<◌, ◌≢◌, Bool, true, false, ℕ, sym, ap, refl, subst, arith, inl, List, ◌++◌, Option, Some, None, length, take, drop, get_or, count_by, IsPermutation, append_assoc, Contains}
+use Rattle.std.proofs.Common.{◌==◌, ◌&&◌, ◌≡◌, ◌∙◌, ◌<◌, ◌≢◌, Bool, true, false, ℕ, sym, ap, refl, subst, arith, inl, List, ◌++◌, Option, Some, None, length, take, drop, count_by, IsPermutation, append_assoc, Contains}
 use Rattle.std.specs.Prelude.{IfNone, IfSome, OnOk, Result, Ok, Err}
 use Rattle.std.proofs.lemmas.Bool.{eqb-true, eq-eqb}
 use Rattle.std.proofs.lemmas.List.{take-append-le, take_all}
-use Rattle.std.proofs.lemmas.Option.{get_or_from_slice_get, slice_get_within}
 use Rattle.std.proofs.lemmas.List.Sorted.{IsPermutation-refl, IsPermutation-sym, IsPermutation-trans, IsPermutation-append, IsPermutation-append_comm}
 use Rattle.edd_commands.specs.declared.Command.{Command}
 use Rattle.blk_bio.specs.Bios.{Bio}
@@ -16,7 +15,7 @@ use Rattle.blk_trace.specs.Events.{entered}
 use Rattle.blk_trace.specs.Laws.{IsAccounted}
 use Rattle.blk_trace.specs.Meaning.{waiting_of}
 use Rattle.blk_layer.specs.Closing.{way_number, is_bio_of, is_command, issued_bios, done_commands, all_accepted, all_ran, AreAllThere, AreSettled, AreCounted, IsBioOf, DiffersAsCommand, Disagrees}
-use Rattle.blk_layer.specs.Inside.Closing.{IsExact, times, IsExtra, HasEach}
+use Rattle.blk_layer.specs.Inside.Closing.{IsExact, times, HasEach}
 use Rattle.blk_bio.specs.declared.bio.BioId.{BioId}
 use Rattle.blk_layer.specs.Seats.{SubmitterSeat, WorkerSeat}
 use Rattle.blk_layer.proofs.Same.{no_rest, each_as_many, count_moved}
@@ -73,9 +72,6 @@ bio_like = λ k x y. by_parts x.id y.id x.dir y.dir x.first y.first x.sectors y.
 pub equal_exact : IsExact bio_equal
 equal_exact = subst (λ (same : Bio → Bio → Bool). IsExact same) (sym bio_like) bio_exact
 
-pub bio_extra : (xs ys : List Bio) (place : ℕ) → IsExtra bio_equal xs ys place → IsExtra is_bio_of xs ys place
-bio_extra xs ys place = subst (λ (same : Bio → Bio → Bool). IsExtra same xs ys place) bio_like
-
 command_is : (x y : Command) → is_command x y ≡ true → x ≡ y
 command_is x y e =
     let a = both (x.id == y.id) ((x.release == y.release) && (x.due == y.due)) e in
@@ -89,15 +85,10 @@ pub command_exact : IsExact is_command
 command_exact = record { only = command_is; self = λ x. rw (eqb_self x.id, eqb_self x.release, eqb_self x.due) refl }
 
 module _ {X : Type 0} (same : X → X → Bool) where
-  -- the element at the place stands more times in the one list
-  pub extra_low : (xs ys : List X) (place : ℕ) → IsExtra same xs ys place → place < length xs
-  extra_low xs ys place extra = slice_get_within xs place extra.0 extra.1
-
-  pub extra_at : (xs ys : List X) (place : ℕ) (x : X) → IsExtra same xs ys place → x ≡ get_or xs place x → count_by (same x) ys < count_by (same x) xs
+  -- what stands more times in the one of two lists than in the other, in those that they were made of too
+  pub moved_more : (xs ys xs' ys' : List X) (x : X) → IsPermutation xs xs' → IsPermutation ys ys' → times same x ys' < times same x xs' → count_by (same x) ys < count_by (same x) xs
   unfolding times
-  extra_at xs ys place x extra is =
-      let here : x ≡ extra.0 = is ∙ get_or_from_slice_get xs place extra.0 x extra.1 in
-      subst (λ (z : X). count_by (same z) ys < count_by (same z) xs) (sym here) extra.2
+  moved_more xs ys xs' ys' x p q more = omega (arith, count_moved (same x) xs xs' p, count_moved (same x) ys ys' q, more)
 
   -- lists that have each element at least as many times as the other, and lists of one length of which the one does
   pub agree : IsExact same → (xs ys : List X) → HasEach same ys xs → HasEach same xs ys → IsPermutation xs ys
@@ -107,6 +98,13 @@ module _ {X : Type 0} (same : X → X → Bool) where
   pub agree_long : IsExact same → (xs ys : List X) → HasEach same ys xs → length ys ≡ length xs → IsPermutation ys xs
   unfolding times
   agree_long exact xs ys le as_many = IsPermutation-sym xs ys (no_rest same exact.only exact.self xs ys le (omega (arith, as_many)))
+
+pub bio_more : (xs ys xs' ys' : List Bio) (x : Bio) → IsPermutation xs xs' → IsPermutation ys ys' → times bio_equal x ys' < times bio_equal x xs' → count_by (is_bio_of x) ys < count_by (is_bio_of x) xs
+bio_more xs ys xs' ys' x p q more = subst (λ (same : Bio → Bio → Bool). count_by (same x) ys < count_by (same x) xs) bio_like (moved_more bio_equal xs ys xs' ys' x p q more)
+
+-- lists of which permutations agree
+pub moved_both : {X : Type 0} (xs ys xs' ys' : List X) → IsPermutation xs xs' → IsPermutation ys ys' → IsPermutation xs' ys' → IsPermutation xs ys
+moved_both xs ys xs' ys' p q same = IsPermutation-trans xs xs' ys p (IsPermutation-trans xs' ys' ys same (IsPermutation-sym ys ys' q))
 
 -- the bios that entered and those of the queues are those that were issued and those left
 pub stored_is : (es : List Happened) (queued : List Bio) → IsAccounted es → IsPermutation (entered es ++ queued) (issued_bios es ++ (queued ++ waiting_of es))

@@ -1,6 +1,5 @@
 -- Lists that are checked off.
 use Rattle.std.proofs.Common.{◌≡◌, ◌∙◌, ◌+◌, ◌<◌, ℕ, zero, suc, sym, ap, subst, arith, List, [], ◌∷◌, ◌++◌, length, take, drop, get_or, set, IsPermutation, append_assoc}
-use Rattle.std.specs.Prelude.{Result, Ok, Err, OnOk}
 use Rattle.std.proofs.lemmas.List.{take_more, take_all, take-append-le, append-nil}
 use Rattle.std.proofs.lemmas.Grind.{flat_map-append}
 use Rattle.std.proofs.lemmas.List.Sorted.{IsPermutation-refl, IsPermutation-trans, IsPermutation-append_right, IsPermutation-middle}
@@ -14,12 +13,15 @@ one_off (l ∷ ls) (suc k) own rest x low at =
     let others : List _ = all_left (set ls k rest) in
     IsPermutation-trans (l ++ all_left ls) (l ++ x ∷ others) (x ∷ (l ++ others)) (IsPermutation-append_right l (all_left ls) (x ∷ others) (one_off ls k own rest x (omega (arith, low)) at)) (IsPermutation-middle l x others)
 
--- one more element of the list is checked off
+-- one more element is checked off, and one more of the list
+pub off_next : {X : Type 0} (all before left rest : List X) (x : X) → IsPermutation all (before ++ left) → IsPermutation left (x ∷ rest) → IsPermutation all ((before ++ x ∷ []) ++ rest)
+off_next all before left rest x were off =
+    subst (IsPermutation all) (sym (append_assoc before (x ∷ []) rest)) (IsPermutation-trans all (before ++ left) (before ++ x ∷ rest) were (IsPermutation-append_right before left (x ∷ rest) off))
+
 pub off_more : {X : Type 0} (all list left rest : List X) (i : ℕ) (x : X) → i < length list → x ≡ get_or list i x → IsPermutation all (take i list ++ left) → IsPermutation left (x ∷ rest) → IsPermutation all (take (i + 1) list ++ rest)
 off_more all list left rest i x low is before off =
     let more : take (i + 1) list ≡ take i list ++ x ∷ [] = take_more list i x low ∙ ap (λ y. take i list ++ y ∷ []) (sym is) in
-    let there : IsPermutation all (take i list ++ x ∷ rest) = IsPermutation-trans all (take i list ++ left) (take i list ++ x ∷ rest) before (IsPermutation-append_right (take i list) left (x ∷ rest) off) in
-    subst (IsPermutation all) (sym (append_assoc (take i list) (x ∷ []) rest) ∙ ap (λ l. l ++ rest) (sym more)) there
+    subst (λ l. IsPermutation all (l ++ rest)) (sym more) (off_next all (take i list) left rest x before off)
 
 -- one more list of which nothing is left
 pub over_more : {X : Type 0} (lists : List (List X)) (i : ℕ) (own : List X) → i < length lists → own ≡ get_or lists i own → own ≡ [] → all_left (take i lists) ≡ [] → all_left (take (i + 1) lists) ≡ []
@@ -34,8 +36,3 @@ put_back new old n all same = take-append-le n new (drop (length new) old) (omeg
 -- the elements of lists, with one list more
 pub lists_more : {X : Type 0} (lists : List (List X)) (own : List X) → all_left (lists ++ own ∷ []) ≡ all_left lists ++ own
 lists_more lists own = flat_map-append (λ l. l) lists (own ∷ []) ∙ ap (λ l. all_left lists ++ l) (append-nil own)
-
--- what holds anyway, said of a result that is good
-pub on_any : {X E : Type 0} (r : Result X E) (P : Type 0) → P → OnOk r P
-on_any (Ok x) P h = h
-on_any (Err e) P h = tt

@@ -34,12 +34,6 @@ pub no_ran : all_ran [] ≡ []
 unfolding all_ran
 no_ran = refl
 
--- an element at a place of a list, whatever stands in for one that isn't there
-pub own_default : {X : Type 0} (xs : List X) (i : ℕ) (x d : X) → i < length xs → x ≡ get_or xs i d → x ≡ get_or xs i x
-own_default [] i x d low is = absurd (omega arith)
-own_default (y ∷ xs) zero x d low is = is
-own_default (y ∷ xs) (suc i) x d low is = own_default xs i x d (omega arith) is
-
 -- an event at its place
 pub event_at : (es : List Happened) (i : ℕ) (e : Happened) → i < length es → e ≡ get_or es i e → slice_get es i ≡ Some e
 event_at [] i e low is = absurd (omega arith)

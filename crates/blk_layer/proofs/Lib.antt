@@ -10,7 +10,7 @@ mod Mapped
 mod InHand
 mod Answered
 mod Running
-mod Times
+mod Abreast
 mod Same
 mod Completed
 mod Gathered

@@ -1,18 +1,16 @@
 -- Commands that came into a worker's hands one after the other.
-use Rattle.std.proofs.Common.{◌≡◌, ◌≢◌, ◌∙◌, ◌+◌, ◌<◌, ◌≤◌, ◌==◌, ℕ, zero, suc, List, [], ◌∷◌, ◌++◌, append_assoc, Some, None, length, refl, sym, ap, subst, inl, inr, not, arith}
-use Rattle.std.specs.Prelude.{Bool, true, false, Option, Result, Ok, Err, OnOk, IfErr, slice_get, slice_set, slice_index_or, Contains, drop, remove}
+use Rattle.std.proofs.Common.{◌≡◌, ◌≢◌, ◌∙◌, ◌+◌, ◌≤◌, ◌==◌, ℕ, zero, suc, List, [], ◌∷◌, ◌++◌, append_assoc, Some, None, length, refl, sym, ap, subst, inl, inr, not, arith}
+use Rattle.std.specs.Prelude.{Bool, true, false, Option, Result, Ok, Err, OnOk, IfErr, slice_get, slice_set, drop}
 use Rattle.std.specs.Bool.{OnTrue, OnFalse}
 use Rattle.std.proofs.lemmas.Bool.{ne_eqb}
-use Rattle.std.proofs.lemmas.List.{append-nil, length-drop}
+use Rattle.std.proofs.lemmas.List.{append-nil}
 use Rattle.std.proofs.lemmas.List.Elements.{filter-append}
-use Rattle.std.proofs.Math.ListN.{drop_of_length-le}
 use Rattle.edd_commands.specs.declared.Command.{Command}
-use Rattle.blk_tags.specs.Tags.{Set, without}
+use Rattle.blk_tags.specs.Tags.{without}
 use Rattle.blk_tags.proofs.Counts.{some_held, held_some, others_left}
 use Rattle.blk_layer.specs.declared.serving.Ran.{Ran}
 use Rattle.blk_layer.specs.declared.serving.Ran.TheVariants.{Done, Busy}
 use Rattle.blk_layer.specs.declared.serving.WorkFault.{WorkFault}
-use Rattle.blk_layer.specs.declared.serving.WorkFault.TheVariants.{TraceFull, Memory}
 use Rattle.blk_layer.specs.declared.seats.NoNext.{NoNext}
 use Rattle.blk_layer.specs.declared.seats.NoNext.TheVariants.{NoTag, Tried}
 use Rattle.blk_core.specs.declared.trying.NoneIssued.TheVariants as none
@@ -20,7 +18,7 @@ use Rattle.blk_core.specs.declared.refusals.IssueFault.TheVariants as issue
 use Rattle.blk_core.specs.declared.refusals.TickFault.TheVariants as tick
 use Rattle.blk_layer.specs.declared.batch.TheConstants.{MAX_BATCH}
 use Rattle.blk_layer.specs.Seats.{WorkerSeat}
-use Rattle.blk_layer.specs.Serving.{TakesInHand, let_go, AccountsFor, LetsGo, RunsMore, TakesAll, IsLeftInHand, IsWorkFault}
+use Rattle.blk_layer.specs.Serving.{TakesInHand, let_go, RunsMore, TakesAll, IsWorkFault}
 use Rattle.blk_layer.specs.Inside.Serving.{IsEndedAs, EndsFirst, EndsBatch, Exchanges, IsServing, Serves, IsServeFault}
 use Rattle.blk_layer.specs.Inside.Next.{pass_end}
 use Rattle.blk_layer.proofs.Running.{none_ran, ran_on, let_go_again}

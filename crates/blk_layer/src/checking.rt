@@ -8,25 +8,24 @@ use std::marker::Model;
 
 /// What is left of an account while it is checked off.
 #[derive(Drop)]
-pub(crate) struct Unchecked<T: Drop, A: Allocator> {
-    account: Vec<T, A>,
-    next: usize,
+pub(crate) struct Unchecked<'a, T> {
+    left: &'a [T],
 }
 
-impl<T: Drop, A: Allocator> Model for Unchecked<T, A> {
-    ghost use Rattle.std.specs.Prelude.{List, drop};
+impl<'a, T> Model for Unchecked<'a, T> {
+    ghost use Rattle.std.specs.Prelude.{List};
 
     ghost Value = { List T };
 
-    ghost view = { λ u. drop u.next u.account.items };
+    ghost view = { λ u. u.left.now };
 }
 
-impl<T: Copy + Eq + Drop, A: Allocator> Unchecked<T, A> {
+impl<'a, T: Eq> Unchecked<'a, T> {
     /// All of an account.
-    pub(crate) fn of(account: Vec<T, A>) -> Unchecked<T, A>
-        ensures { result ≡ account.items }
+    pub(crate) fn of(account: &'a [T]) -> Unchecked<'a, T>
+        ensures { result ≡ account.now }
     {
-        Unchecked { account, next: 0 }
+        Unchecked { left: account }
     }
 
     /// Whether an element is the next of the account; if so, it is checked off.
@@ -35,9 +34,9 @@ impl<T: Copy + Eq + Drop, A: Allocator> Unchecked<T, A> {
         ensures off { IsTrue result → self.old ≡ element.now ∷ self.new }
         ensures same { result ≡ false → self.new ≡ self.old }
     {
-        match self.account.as_slice().get(self.next) {
-            Some(next) if *next == *element => {
-                self.next += 1;
+        match self.left.split_first() {
+            Some((next, rest)) if *next == *element => {
+                self.left = rest;
                 true
             }
             _ => false,
@@ -48,17 +47,17 @@ impl<T: Copy + Eq + Drop, A: Allocator> Unchecked<T, A> {
     fn is_over(&self) -> bool
         ensures { IsTrue result → self.now ≡ [] }
     {
-        self.next >= self.account.len()
+        self.left.is_empty()
     }
 }
 
 /// Whether the accounts have the elements of the list and no others, each account its own in their order.
-pub(crate) fn is_checked_off<T: Copy + Eq + Drop, A: Allocator>(
-    mut accounts: Vec<Unchecked<T, A>, A>,
+pub(crate) fn is_checked_off<'a, T: Eq, A: Allocator>(
+    mut accounts: Vec<Unchecked<'a, T>, A>,
     list: &[T],
 ) -> bool
     requires { IsExact T.eq }
-    ensures { IsTrue result → IsPermutation (all_left accounts.items) list.now }
+    ensures { IsTrue result → IsPermutation (all_left accounts.entry.items) list.now }
 {
     let mut from = 0;
     for element in list {
@@ -72,8 +71,8 @@ pub(crate) fn is_checked_off<T: Copy + Eq + Drop, A: Allocator>(
 
 /// Checks an element off in the first account whose next it is, and answers its place. The account at `from` is asked first, then those
 /// behind it, and then those before it.
-fn check_one<T: Copy + Eq + Drop, A: Allocator>(
-    accounts: &mut [Unchecked<T, A>],
+pub(crate) fn check_one<'a, T: Eq>(
+    accounts: &mut [Unchecked<'a, T>],
     from: usize,
     element: &T,
 ) -> Option<usize>
@@ -94,7 +93,7 @@ fn check_one<T: Copy + Eq + Drop, A: Allocator>(
 }
 
 /// Whether all of all accounts was checked off.
-fn are_over<T: Copy + Eq + Drop, A: Allocator>(accounts: &[Unchecked<T, A>]) -> bool
+pub(crate) fn are_over<'a, T: Eq>(accounts: &[Unchecked<'a, T>]) -> bool
     ensures { IsTrue result → all_left accounts.now ≡ [] }
 {
     for account in accounts {

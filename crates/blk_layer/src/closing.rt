@@ -1,7 +1,7 @@
 //! How a layer is closed: its accounts are settled, once and for all.
 
-ghost use Rattle.std.specs.Prelude.{ℕ, false, ◌≡◌, ◌<◌, ◌++◌, ◌↔◌, [], List, IsTrue, IfOk, IfErr, OnOk, IfSome, IfNone, Some, IsPermutation, length, slice_get, unwrap_or};
-ghost use Rattle.std.specs.HashMap as hash;
+ghost use Rattle.std.specs.Prelude.{ℕ, false, ◌≡◌, ◌<◌, ◌++◌, ◌↔◌, [], List, IsTrue, IfOk, IfErr, OnOk, IfSome, IfNone, Some, IsPermutation, length, slice_get};
+ghost use Rattle.std.specs.List.Sorted.{IsSorted};
 ghost use Rattle.blk_bio.specs.Bios.{Bio as Transfer};
 ghost use Rattle.blk_trace.specs.Events.{AreOnce, HasId, IsIssued, IsReleased};
 ghost use Rattle.blk_trace.specs.Kinds.{releases};
@@ -12,9 +12,9 @@ ghost use Rattle.blk_layer.specs.Names.{close_told};
 ghost use Rattle.blk_layer.specs.Seats.{SubmitterSeat};
 ghost use Rattle.blk_layer.specs.Closing.{AreAllThere, HasNumber, all_accepted, all_ran, issued_bios, command_done, done_commands, done_count, AreSettled, AreCounted, IsBioOf, DiffersAsCommand, Disagrees, IsCloseRefusal};
 ghost use Rattle.blk_layer.specs.Inside.Closing.{IsAccountOf};
-ghost use Rattle.blk_layer.specs.Inside.Closing.{AllDiffer, all_left, IsExact, IsExtra, CountsEach, HasEach, DiffersIn, DiffersInCommand};
+ghost use Rattle.blk_layer.specs.Inside.Closing.{AllDiffer, all_left, IsExtra, HasEach, DiffersIn, DiffersInCommand};
 
-use crate::checking::{Unchecked, is_checked_off};
+use crate::checking::{Unchecked, are_over, check_one, is_checked_off};
 use crate::layer::{Layer, MAX_WORKERS, Named};
 use crate::locked::LockedQueue;
 use crate::seats::{Submitter, Worker};
@@ -25,14 +25,9 @@ use blk_sched::Scheduler;
 use blk_trace::{Entry, Event, Issued, Outcome, Trace};
 use edd_commands::{Command, Fault, Told, told};
 use std::alloc::{AllocError, Allocator, Global};
-use std::collections::HashMap;
-use std::hash::{BuildHasherDefault, FoldHasher, Hash};
+use std::cmp::Ordering;
 use std::sync::Mutex;
 use thiserror::Error;
-
-/// How tallies are hashed: by numbers alone, so that they need no source of randomness. Nothing that a submitter chooses
-/// reaches them but where accounts differ.
-type LayerHashing = BuildHasherDefault<FoldHasher>;
 
 /// Why a layer is not closed, in the order in which the reasons are looked for.
 #[derive(Clone, Copy, Debug, PartialEq, Eq, Error)]
@@ -255,7 +250,7 @@ fn settle<S: Scheduler, L: Named>(
     stored.extend_from_slice(left.as_slice())?;
     let waiting = trace.waiting()?;
     left.extend_from_slice(waiting.as_slice())?;
-    if let Some(bio) = unaccounted_bio(alloc, submitters, stored.as_slice())? {
+    if let Some(bio) = unaccounted_bio(alloc, submitters, stored)? {
         return Ok(Settlement {
             left,
             differs: Some(bio),
@@ -266,7 +261,7 @@ fn settle<S: Scheduler, L: Named>(
 }
 
 /// A bio of a command that stands in the workers' accounts more or less often than it was done. The accounts have as many
-/// commands as are done. Fails only when memory runs out.
+/// commands as are done. Where each has its own in the order of their Issues, these are gone over once. Fails only when memory runs out.
 fn command_bio<L: Named, A: Allocator + Clone>(
     alloc: &A,
     trace: &Trace<A>,
@@ -276,9 +271,13 @@ fn command_bio<L: Named, A: Allocator + Clone>(
     ensures some { IfOk result (λ f. IfSome f (DiffersAsCommand trace.now.setup trace.now.events workers.now)) }
     ensures none { IfOk result (λ f. IfNone f (IsPermutation (all_ran workers.now) (done_commands trace.now.setup trace.now.events))) }
 {
+    if are_done(trace, commands_by_seat(alloc, workers)?) {
+        return Ok(None);
+    }
     let events = trace.events();
     let done = done(alloc, trace)?;
-    match unaccounted_command(alloc, done.as_slice(), workers)? {
+    let ran = ran(alloc.clone()?, workers)?;
+    match differing_command(done, ran) {
         Some(command) => Ok(Some(bio_of(events, command.id))),
         None => Ok(None),
     }
@@ -289,66 +288,63 @@ fn command_bio<L: Named, A: Allocator + Clone>(
 fn unaccounted_bio<L: Named, A: Allocator + Clone>(
     alloc: &A,
     submitters: &[Submitter<L, A>],
-    stored: &[Bio],
+    stored: Vec<Bio, A>,
 ) -> Result<Option<BioId>, AllocError>
-    ensures some { IfOk result (λ found. IfSome found (DiffersIn (all_accepted submitters.now) stored.now)) }
-    ensures none { IfOk result (λ found. IfNone found (IsPermutation (all_accepted submitters.now) stored.now)) }
+    ensures some { IfOk result (λ found. IfSome found (DiffersIn (all_accepted submitters.now) stored.items)) }
+    ensures none { IfOk result (λ found. IfNone found (IsPermutation (all_accepted submitters.now) stored.items)) }
     ensures each { OnOk result ((k : ℕ) (s : SubmitterSeat) → slice_get submitters.now k ≡ Some s → IsAccountOf s) }
 {
-    if is_checked_off(bios_by_seat(alloc, submitters)?, stored) {
+    if is_checked_off(bios_by_seat(alloc, submitters)?, stored.as_slice()) {
         return Ok(None);
     }
     let accepted = accepted(alloc.clone()?, submitters)?;
-    differing_bio(alloc, accepted.as_slice(), stored)
+    Ok(differing_bio(accepted, stored))
 }
 
-/// A command that stands among those that are done more or less often than in the workers' accounts, which have as many. Where each worker
-/// has its own in the order of the list, that is gone over once. Fails only when memory runs out.
-fn unaccounted_command<L: Named, A: Allocator + Clone>(
-    alloc: &A,
-    done: &[Command],
-    workers: &[Worker<L, A>],
-) -> Result<Option<Command>, AllocError>
-    requires { length (all_ran workers.now) ≡ length done.now }
-    ensures some { IfOk result (λ found. IfSome found (DiffersInCommand done.now (all_ran workers.now))) }
-    ensures none { IfOk result (λ found. IfNone found (IsPermutation (all_ran workers.now) done.now)) }
+/// Whether the accounts have the commands of a trace that are done and no others, each account its own in the order of their Issues.
+fn are_done<'a, A: Allocator + Clone>(
+    trace: &Trace<A>,
+    mut accounts: Vec<Unchecked<'a, Command>, A>,
+) -> bool
+    ensures { IsTrue result → IsPermutation (all_left accounts.entry.items) (done_commands trace.now.setup trace.now.events) }
 {
-    if is_checked_off(commands_by_seat(alloc, workers)?, done) {
-        return Ok(None);
+    let mut from = 0;
+    for issue in trace.issues() {
+        if let Some(command) = command_done(trace, issue) {
+            match check_one(accounts.as_mut_slice(), from, &command) {
+                Some(place) => from = place,
+                None => return false,
+            }
+        }
     }
-    let ran = ran(alloc.clone()?, workers)?;
-    differing_command(alloc, done, ran.as_slice())
+    are_over(accounts.as_slice())
 }
 
 /// The bios that each submitter has in its account.
-fn bios_by_seat<L: Named, A: Allocator + Clone>(
+fn bios_by_seat<'a, L: Named, A: Allocator + Clone>(
     alloc: &A,
-    submitters: &[Submitter<L, A>],
-) -> Result<Vec<Unchecked<Bio, A>, A>, AllocError>
+    submitters: &'a [Submitter<L, A>],
+) -> Result<Vec<Unchecked<'a, Bio>, A>, AllocError>
     ensures list { IfOk result (λ v. all_left v.items ≡ all_accepted submitters.now) }
     ensures each { OnOk result ((k : ℕ) (s : SubmitterSeat) → slice_get submitters.now k ≡ Some s → IsAccountOf s) }
 {
     let mut accounts = Vec::new(alloc.clone()?);
     for submitter in submitters {
-        let mut bios = Vec::new(alloc.clone()?);
-        bios.extend_from_slice(submitter.accepted())?;
-        accounts.push(Unchecked::of(bios))?;
+        accounts.push(Unchecked::of(submitter.accepted()))?;
     }
     Ok(accounts)
 }
 
 /// The commands that each worker has in its account.
-fn commands_by_seat<L: Named, A: Allocator + Clone>(
+fn commands_by_seat<'a, L: Named, A: Allocator + Clone>(
     alloc: &A,
-    workers: &[Worker<L, A>],
-) -> Result<Vec<Unchecked<Command, A>, A>, AllocError>
+    workers: &'a [Worker<L, A>],
+) -> Result<Vec<Unchecked<'a, Command>, A>, AllocError>
     ensures { IfOk result (λ v. all_left v.items ≡ all_ran workers.now) }
 {
     let mut accounts = Vec::new(alloc.clone()?);
     for worker in workers {
-        let mut commands = Vec::new(alloc.clone()?);
-        commands.extend_from_slice(worker.ran())?;
-        accounts.push(Unchecked::of(commands))?;
+        accounts.push(Unchecked::of(worker.ran()))?;
     }
     Ok(accounts)
 }
@@ -467,92 +463,57 @@ fn released_as<A: Allocator + Clone>(event: &Event<Request<A>>, id: u64) -> Opti
     Some(request.bios()[0].id())
 }
 
-/// The id of a bio that stands in the one list more or less often than in the other. Fails only when memory runs out.
-fn differing_bio<A: Allocator + Clone>(
-    alloc: &A,
-    accepted: &[Bio],
-    stored: &[Bio],
-) -> Result<Option<BioId>, AllocError>
-    ensures some { IfOk result (λ found. IfSome found (DiffersIn accepted.now stored.now)) }
-    ensures none { IfOk result (λ found. IfNone found (IsPermutation accepted.now stored.now)) }
+/// The id of a bio that stands in the one list more or less often than in the other.
+fn differing_bio<A: Allocator>(mut accepted: Vec<Bio, A>, mut stored: Vec<Bio, A>) -> Option<BioId>
+    ensures some { IfSome result (DiffersIn accepted.items stored.items) }
+    ensures none { IfNone result (IsPermutation accepted.items stored.items) }
 {
-    if let Some(place) = first_extra(alloc.clone()?, accepted, stored)? {
-        return Ok(Some(accepted[place].id()));
+    accepted.sort_unstable();
+    stored.sort_unstable();
+    if let Some(bio) = first_extra(accepted.as_slice(), stored.as_slice()) {
+        return Some(bio.id());
     }
-    match first_extra(alloc.clone()?, stored, accepted)? {
-        Some(place) => Ok(Some(stored[place].id())),
-        None => Ok(None),
+    match first_extra(stored.as_slice(), accepted.as_slice()) {
+        Some(bio) => Some(bio.id()),
+        None => None,
     }
 }
 
-/// A command that stands among those that are done more or less often than among those that were run. The two lists are of one
-/// length. Fails only when memory runs out.
-fn differing_command<A: Allocator + Clone>(
-    alloc: &A,
-    done: &[Command],
-    ran: &[Command],
-) -> Result<Option<Command>, AllocError>
-    requires { length ran.now ≡ length done.now }
-    ensures some { IfOk result (λ found. IfSome found (DiffersInCommand done.now ran.now)) }
-    ensures none { IfOk result (λ found. IfNone found (IsPermutation ran.now done.now)) }
+/// A command that stands among those that are done more often than among those that were run. The two lists are of one length.
+fn differing_command<A: Allocator>(
+    mut done: Vec<Command, A>,
+    mut ran: Vec<Command, A>,
+) -> Option<Command>
+    requires { length ran.items ≡ length done.items }
+    ensures some { IfSome result (DiffersInCommand done.items ran.items) }
+    ensures none { IfNone result (IsPermutation ran.items done.items) }
 {
-    match first_extra(alloc.clone()?, done, ran)? {
-        Some(place) => Ok(Some(done[place])),
-        None => Ok(None),
-    }
+    done.sort_unstable();
+    ran.sort_unstable();
+    first_extra(done.as_slice(), ran.as_slice())
 }
 
-/// The place of the first element that stands more times in the list, up to there, than in the other. Fails only when memory
-/// runs out.
-fn first_extra<T: Copy + Eq + Hash + Drop, A: Allocator + Clone>(
-    alloc: A,
-    list: &[T],
-    other: &[T],
-) -> Result<Option<usize>, AllocError>
-    requires { IsExact T.eq }
-    ensures some { IfOk result (λ found. IfSome found (IsExtra T.eq list.now other.now)) }
-    ensures none { IfOk result (λ found. IfNone found (HasEach T.eq other.now list.now)) }
+/// The least element that stands more times in the list than in the other. Both are sorted, and gone over once, side by side.
+fn first_extra<T: Copy + Ord>(list: &[T], other: &[T]) -> Option<T>
+    requires list { IsSorted T.cmp list.now }
+    requires other { IsSorted T.cmp other.now }
+    ensures some { IfSome result (IsExtra T.eq list.now other.now) }
+    ensures none { IfNone result (HasEach T.eq other.now list.now) }
 {
-    let mut left = tallied(alloc, other)?;
-    for (place, key) in list.iter().enumerate() {
-        let count = count(&left, key);
-        if count == 0 {
-            return Ok(Some(place));
+    let mut place = 0;
+    for item in other {
+        if place == list.len() {
+            return None;
         }
-        let Ok(_) = left.insert(*key, count - 1) else {
-            return Err(AllocError);
-        };
+        let element = &list[place];
+        match element.cmp(item) {
+            Ordering::Less => return Some(*element),
+            Ordering::Equal => place += 1,
+            Ordering::Greater => {}
+        }
     }
-    Ok(None)
-}
-
-/// How many times each element stands in the list.
-fn tallied<T: Copy + Eq + Hash + Drop, A: Allocator + Clone>(
-    alloc: A,
-    list: &[T],
-) -> Result<HashMap<T, u64, LayerHashing, A>, AllocError>
-    requires { IsExact T.eq }
-    ensures { IfOk result (λ m. CountsEach T.eq (hash.get T.eq m) list.now) }
-{
-    let mut counts = HashMap::new(alloc);
-    for key in list {
-        let count = count(&counts, key);
-        let Ok(_) = counts.insert(*key, count + 1) else {
-            return Err(AllocError);
-        };
+    if place == list.len() {
+        return None;
     }
-    Ok(counts)
-}
-
-/// How many times an element was counted.
-fn count<T: Copy + Eq + Hash + Drop, A: Allocator + Clone>(
-    counts: &HashMap<T, u64, LayerHashing, A>,
-    key: &T,
-) -> u64
-    ensures { result ≡ unwrap_or (hash.get T.eq counts.now key.now) 0 }
-{
-    match counts.get(key) {
-        Some(count) => *count,
-        None => 0,
-    }
+    Some(list[place])
 }

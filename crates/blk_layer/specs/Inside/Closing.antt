@@ -1,5 +1,5 @@
 -- How many times an element stands in a list, and what is gathered from a trace.
-use Rattle.std.specs.Prelude.{ℕ, ◌≡◌, ◌<◌, ◌≤◌, ◌+◌, Bool, List, unwrap_or, count_by, slice_get, Some, ◌≢◌, Option, Contains, true}
+use Rattle.std.specs.Prelude.{ℕ, ◌≡◌, ◌<◌, ◌≤◌, ◌+◌, Bool, List, drop, count_by, slice_get, Some, ◌≢◌, Contains, true}
 use Rattle.edd_commands.specs.declared.Command.{Command}
 use Rattle.blk_bio.specs.Bios.{Bio}
 use Rattle.blk_layer.specs.Closing.{is_bio_of, is_command}
@@ -17,21 +17,18 @@ pub record IsExact {X : Type 0} (same : X → X → Bool) : Type 0 where
 unfoldable pub times : {X : Type 0} → (X → X → Bool) → X → List X → ℕ
 times same x xs = count_by (same x) xs
 
--- how many times each element stands in the list
-abbrev pub CountsEach : {X : Type 0} → (X → X → Bool) → (X → Option ℕ) → List X → Type 0
-CountsEach {X} same got xs = (x : X) → unwrap_or (got x) 0 ≡ times same x xs
-
--- by how many times more each element stands in the other list
-abbrev pub CountsMore : {X : Type 0} → (X → X → Bool) → (X → Option ℕ) → List X → List X → Type 0
-CountsMore {X} same got xs other = (x : X) → unwrap_or (got x) 0 + times same x xs ≡ times same x other
+-- up to these places no element stands more times in the list than in the other one, and each that is still to come as many times
+abbrev pub AreAbreast : {X : Type 0} → (X → X → Bool) → List X → List X → ℕ → ℕ → Type 0
+AreAbreast {X} same xs other i k = (x : X) → (times same x xs + times same x (drop k other) ≤ times same x other + times same x (drop i xs))
+    × (0 < times same x (drop i xs) → times same x other + times same x (drop i xs) ≤ times same x xs + times same x (drop k other))
 
 -- each element of the list stands in the other one at least as many times
 abbrev pub HasEach : {X : Type 0} → (X → X → Bool) → List X → List X → Type 0
 HasEach {X} same other xs = (x : X) → times same x xs ≤ times same x other
 
--- the element at the place stands more times in the one list than in the other
-abbrev pub IsExtra : {X : Type 0} → (X → X → Bool) → List X → List X → ℕ → Type 0
-IsExtra {X} same xs other place = (x : X) × (slice_get xs place ≡ Some x) × (times same x other < times same x xs)
+-- the element stands more times in the one list than in the other
+abbrev pub IsExtra : {X : Type 0} → (X → X → Bool) → List X → List X → X → Type 0
+IsExtra same xs other x = Contains xs x × (times same x other < times same x xs)
 
 -- what a submitter accepted is its own, and no two of one id
 abbrev pub IsAccountOf : SubmitterSeat → Type 0
