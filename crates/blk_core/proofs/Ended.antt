@@ -31,7 +31,7 @@ use Rattle.blk_core.proofs.Requeued.{flown_not_requeued, requeued-finished, requ
 use Rattle.blk_core.proofs.Flown.{flown_kept}
 use Rattle.blk_core.proofs.Opens.{open_by_dir}
 use Rattle.blk_core.proofs.Ties.{old_known, one_longer, tied_at, seated, pending_is}
-use Rattle.blk_trace.proofs.Steady.{seat_ended}
+use Rattle.blk_trace.proofs.Seats.{seat_ended}
 use Rattle.blk_trace.proofs.Opening.{open_ended, open_positive}
 use Rattle.blk_trace.proofs.TagUses.{by_open}
 use Rattle.blk_trace.proofs.Steps as step

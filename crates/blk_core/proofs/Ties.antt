@@ -25,7 +25,7 @@ use Rattle.blk_trace.proofs.Depths.{depth_now_is}
 use Rattle.blk_trace.specs.Events.{IsReleased, round_of, entered, AreOnce, open_count, IsOpen, IsUsed}
 use Rattle.blk_trace.specs.Issues.{issues_from}
 use Rattle.blk_trace.specs.Meaning.{released_ids, issued_ids, served, waiting_ids, rising}
-use Rattle.blk_trace.specs.Inside.Seats.{RoundSeat, seat_at, flying_of, this_round}
+use Rattle.blk_trace.specs.Inside.Seats.{RoundSeat, seat_at, flying_of}
 use Rattle.blk_trace.specs.Inside.Allowed.{IsAllowed}
 use Rattle.blk_trace.specs.Waits.{Entered, has_id, waits_at, was_issued, unissued_at, waiting_count, released_count}
 use Rattle.blk_trace.specs.Setups.{same_dir}
@@ -47,8 +47,7 @@ use Rattle.blk_core.proofs.Flown.{flown_kept}
 use Rattle.blk_core.proofs.Opens.{open_by_dir}
 use Rattle.blk_trace.proofs.Counting.{waiting_is, count_kept}
 use Rattle.blk_trace.proofs.Opening.{open_kept}
-use Rattle.blk_trace.proofs.Steady.{seat_quiet, open_seat}
-use Rattle.blk_trace.proofs.Seated.{free_unused, seat_used}
+use Rattle.blk_trace.proofs.Seats.{seat_quiet, open_seat, free_unused, seat_used}
 use Rattle.blk_trace.proofs.Capacities.{depth_few}
 use Rattle.blk_trace.proofs.TagUses.{by_open}
 use Rattle.blk_trace.proofs.Pushing.{empty_legal}
@@ -315,7 +314,7 @@ unfolding waiting_ids released_ids issued_ids served issues_from rising
 no_count = refl
 
 no_seat : (t : ℕ) → seat_at [] t ≡ None
-unfolding seat_at this_round
+unfolding seat_at issues_from
 no_seat t = refl
 
 none_open : (d : Dir) → open_issues_of [] d ≡ 0

@@ -23,7 +23,7 @@ use Rattle.blk_trace.specs.Issues.{outcome_of, issues_from}
 use Rattle.blk_trace.specs.Meaning.{timed, served, release_of, due_of, command_of, released_ids, issued_ids, commands_of, rounds_of}
 use Rattle.blk_trace.specs.Waits.{Entered, has_id, waits_at}
 use Rattle.blk_trace.specs.Inside.Allowed.{IsAllowed, places_of}
-use Rattle.blk_trace.specs.Inside.Seats.{this_round, seat_at, flying_of}
+use Rattle.blk_trace.specs.Inside.Seats.{seat_at, flying_of}
 use Rattle.blk_trace.proofs.Pushing.{empty_legal, push_legal}
 use Rattle.blk_trace.proofs.Allowed.{allowed-unbroken}
 use Rattle.blk_trace.proofs.Ids.{released_has}
@@ -76,7 +76,7 @@ unfolding entered open_count released_ids
 write_enters = next [] (Release 0 (write ∷ [])) (empty_legal one_tag) (fresh [] 0 refl, inl refl, once_push [] write (λ j k b c h l s. absurd (cc)) refl) (is_one write (record { not_empty = omega arith; in_range = omega arith })) (omega arith)
 
 write_goes : IsLegalTrace one_tag es2
-unfolding open_count released_ids issued_ids served issues_from waits_at depth_now depth_in depth_at changes_of timed round_of seat_at this_round
+unfolding open_count released_ids issued_ids served issues_from waits_at depth_now depth_in depth_at changes_of timed round_of seat_at
 write_goes = next es1 (Issue 0 0) write_enters (_, refl, omega arith, refl) tt (omega arith)
 
 read_enters : IsLegalTrace one_tag es3
@@ -84,15 +84,15 @@ unfolding entered open_count released_ids
 read_enters = next es2 (Release 1 (read ∷ [])) write_goes (fresh es2 1 refl, inl refl, once_push (write ∷ []) read (once_push [] write (λ j k b c h l s. absurd (cc)) refl) refl) (is_one read (record { not_empty = omega arith; in_range = omega arith })) (omega arith)
 
 write_done : IsLegalTrace one_tag es4
-unfolding open_count seat_at this_round request_of
+unfolding open_count seat_at issues_from outcome_of round_of request_of
 write_done = next es3 (Done 0) read_enters (Write, refl) tt (omega arith)
 
 round_over : IsLegalTrace one_tag es5
-unfolding open_count flying_of issues_from outcome_of seat_at this_round request_of
+unfolding open_count flying_of issues_from outcome_of request_of
 round_over = next es4 Tick write_done (refl, refl) tt (omega arith)
 
 pub legal : IsLegalTrace one_tag read_too_late
-unfolding open_count released_ids issued_ids served issues_from outcome_of waits_at depth_now depth_in depth_at changes_of timed round_of seat_at this_round
+unfolding open_count released_ids issued_ids served issues_from outcome_of waits_at depth_now depth_in depth_at changes_of timed round_of seat_at
 legal = next es5 (Issue 1 0) round_over (_, refl, omega arith, refl) tt (omega arith)
 
 -- ---- each came first of what waited

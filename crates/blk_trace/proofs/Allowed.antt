@@ -17,7 +17,7 @@ use Rattle.blk_trace.proofs.Room.{room_kept, room_issue, room_end}
 use Rattle.blk_trace.proofs.Ids.{has_released, issued_was, back_all}
 use Rattle.blk_trace.proofs.Unissued.{unissued_from}
 use Rattle.blk_trace.proofs.Waiting.{IsWaiting, waiting_from}
-use Rattle.blk_trace.proofs.Steady.{seat_open, seat_unused}
+use Rattle.blk_trace.proofs.Seats.{seat_open, seat_unused}
 use Rattle.blk_trace.proofs.Opening.{open-both, open_positive}
 
 -- a request that may be joined waits, and was never issued
@@ -35,7 +35,7 @@ allowed_end setup events e tag end allowed =
 
 ends_open : (setup : Setup) (events : List Happened) (e : Happened) → IsLegalTrace setup events → IsAllowed setup events e → IfSome (ends e) (IsOpen events)
 ends_open setup events e legal allowed =
-    if_some (ends e) (IsOpen events) (λ tag end. let may = allowed_end setup events e tag end allowed in seat_open setup events tag may.0 legal may.1)
+    if_some (ends e) (IsOpen events) (λ tag end. let may = allowed_end setup events e tag end allowed in seat_open events tag may.0 may.1)
 
 -- the places that are taken with one more event
 enough : (setup : Setup) (events : List Happened) (e : Happened) (o : Option ℕ) → ends e ≡ o → issues e ≡ None → IsLegalTrace setup events → IsAllowed setup events e → length events + open_count events + places_of e ≤ MAX_EVENTS → Obeys setup events e TooLong
@@ -44,7 +44,7 @@ enough setup events e None none i legal allowed room =
     room_kept setup events e i none (omega (arith, room, one))
 enough setup events e (Some tag) end i legal allowed room =
     let may = allowed_end setup events e tag end allowed in
-    room_end setup events e tag end legal (seat_open setup events tag may.0 legal may.1)
+    room_end setup events e tag end legal (seat_open events tag may.0 may.1)
 
 pub allowed-unbroken : (setup : Setup) (events : List Happened) (e : Happened) → IsLegalTrace setup events → IsAllowed setup events e → length events + open_count events + places_of e ≤ MAX_EVENTS → BreaksNoRule setup events e
 allowed-unbroken setup events (Release id bios) legal allowed room ReleasedTwice = allowed.0

@@ -13,9 +13,10 @@ use Rattle.blk_trace.specs.declared.issued.Issued.{Issued}
 use Rattle.blk_trace.specs.declared.event.Event.TheVariants.{Issue}
 use Rattle.blk_trace.specs.Happened.{Happened}
 use Rattle.blk_trace.specs.Kinds.{is_tick, issues, ends, requeues, is_done_of}
-use Rattle.blk_trace.specs.Events.{At, EndsAt, round_of, IsIssued, IsOpenBy}
+use Rattle.blk_trace.specs.Events.{At, EndsAt, round_of, round_at, IsIssued, IsOpenBy}
 use Rattle.blk_trace.specs.Issues.{end_of, outcome_of, issue_in, issues_from, issues_of, flies}
 use Rattle.blk_trace.specs.Inside.Issues.{ended_by}
+use Rattle.blk_trace.specs.Inside.Kept.{IsFlyingAt}
 use Rattle.blk_trace.proofs.Words.{done_by, done_by_none, issue_is}
 use Rattle.blk_trace.proofs.More.{round_cons}
 
@@ -134,27 +135,31 @@ ends_later es k j tag d = (d.0, sym (nth_drop (suc k) es j) ∙ d.1, d.2)
 pub ends_from : (es : List Happened) (k j tag : ℕ) → k < j → EndsAt es j tag → EndsAt (drop (suc k) es) (j - suc k) tag
 ends_from es k j tag l d = (d.0, nth_drop (suc k) es (j - suc k) ∙ ap (λ n. slice_get es n) (let e : suc k + (j - suc k) ≡ j = omega arith in e) ∙ d.1, d.2)
 
--- the event of an Issue, and what became of it
-pub record IsFrom (es : List Happened) (i : Issued) : Type 0 where
+-- the event of an Issue, its round, and what became of it
+pub record IsFrom (r : ℕ) (es : List Happened) (i : Issued) : Type 0 where
   pub place : ℕ
   pub issued : At es place (Issue i.id i.tag)
+  pub now : i.round ≡ r + round_at es place
   pub outcome : i.outcome ≡ outcome_of i.tag (drop (suc place) es)
 
-from_later : (x : Happened) (es : List Happened) (i : Issued) → IsFrom es i → IsFrom (x ∷ es) i
-from_later x es i f = record { place = suc f.place; issued = f.issued; outcome = f.outcome }
+from_later : (r : ℕ) (x : Happened) (es : List Happened) (i : Issued) → IsFrom (cond (is_tick x) (r + 1) r) es i → IsFrom r (x ∷ es) i
+from_later r x es i f = record { place = suc f.place; issued = f.issued; now = f.now ∙ sym (round_cons x (take f.place es) r); outcome = f.outcome }
 
-from_part : (r : ℕ) (x : Happened) (es : List Happened) (o : Option (ℕ × ℕ)) (xs : List Issued) (k : ℕ) (i : Issued) → issues x ≡ o → ((j : ℕ) → slice_get xs j ≡ Some i → IsFrom es i) → slice_get (cons_option (option_map (issue_in r es) o) xs) k ≡ Some i → IsFrom (x ∷ es) i
-from_part r x es None xs k i is later h = from_later x es i (later k h)
+from_part : (r : ℕ) (x : Happened) (es : List Happened) (o : Option (ℕ × ℕ)) (xs : List Issued) (k : ℕ) (i : Issued) → issues x ≡ o → ((j : ℕ) → slice_get xs j ≡ Some i → IsFrom (cond (is_tick x) (r + 1) r) es i) → slice_get (cons_option (option_map (issue_in r es) o) xs) k ≡ Some i → IsFrom r (x ∷ es) i
+unfolding round_of
+from_part r x es None xs k i is later h = from_later r x es i (later k h)
 from_part r x es (Some q) xs zero i is later h =
     let same : issue_in r es q ≡ i = cc in
+    let round : r ≡ i.round = ap (λ (j : Issued). j.round) same in
     record {
       place = 0;
       issued = ap Some (issue_is x q is) ∙ ap (λ (j : Issued). let e : Happened = Issue j.id j.tag in Some e) same;
+      now = omega (arith, round);
       outcome = ap (λ (j : Issued). j.outcome) (sym same) ∙ ap (λ (j : Issued). outcome_of j.tag es) same;
     }
-from_part r x es (Some q) xs (suc k) i is later h = from_later x es i (later k h)
+from_part r x es (Some q) xs (suc k) i is later h = from_later r x es i (later k h)
 
-pub issue_from : (r : ℕ) (es : List Happened) (k : ℕ) (i : Issued) → slice_get (issues_from r es) k ≡ Some i → IsFrom es i
+pub issue_from : (r : ℕ) (es : List Happened) (k : ℕ) (i : Issued) → slice_get (issues_from r es) k ≡ Some i → IsFrom r es i
 unfolding issues_from
 issue_from r [] k i h = absurd (cc)
 issue_from r (x ∷ es) k i h = from_part r x es (issues x) (issues_from (cond (is_tick x) (r + 1) r) es) k i refl (λ j t. issue_from (cond (is_tick x) (r + 1) r) es j i t) h
@@ -164,16 +169,16 @@ place_after : {X : Type 0} (o : Option X) (xs : List X) (k : ℕ) (x : X) → sl
 place_after None xs k x h = (k, h)
 place_after (Some y) xs k x h = (suc k, h)
 
-pub issue_at : (r : ℕ) (es : List Happened) (k id tag : ℕ) → At es k (Issue id tag) → (j : ℕ) × ((n : ℕ) × (slice_get (issues_from r es) j ≡ Some (record { round = n; id = id; tag = tag; outcome = outcome_of tag (drop (suc k) es) })))
-unfolding issues_from
+pub issue_at : (r : ℕ) (es : List Happened) (k id tag : ℕ) → At es k (Issue id tag) → (j : ℕ) × ((n : ℕ) × (slice_get (issues_from r es) j ≡ Some (record { round = n; id = id; tag = tag; outcome = outcome_of tag (drop (suc k) es) })) × (n ≡ r + round_at es k))
+unfolding issues_from round_of
 issue_at r [] k id tag h = absurd (cc)
 issue_at r (x ∷ es) zero id tag h =
     let is : x ≡ Issue id tag = cc in
-    (0, (r, ap (λ o. slice_get (cons_option (option_map (issue_in r es) o) (issues_from (cond (is_tick x) (r + 1) r) es)) 0) (ap issues is)))
+    (0, (r, ap (λ o. slice_get (cons_option (option_map (issue_in r es) o) (issues_from (cond (is_tick x) (r + 1) r) es)) 0) (ap issues is), omega arith))
 issue_at r (x ∷ es) (suc k) id tag h =
     let p = issue_at (cond (is_tick x) (r + 1) r) es k id tag h in
     let q = place_after (option_map (issue_in r es) (issues x)) (issues_from (cond (is_tick x) (r + 1) r) es) p.0 _ p.1.1 in
-    (q.0, (p.1.0, q.1))
+    (q.0, (p.1.0, q.1, p.1.2 ∙ sym (round_cons x (take k es) r)))
 
 pub was_so : (es : List Happened) (k : ℕ) (i : Issued) → slice_get (issues_of es) k ≡ Some i → IsIssued es i.id
 was_so es k i h = let f = issue_from 0 es k i h in (f.place, (i.tag, f.issued))
@@ -195,6 +200,15 @@ flying_is Flying h = refl
 flying_is Done h = absurd (cc)
 flying_is Back h = absurd (cc)
 
+-- and an open one is in flight
+pub flying_place : (es : List Happened) (t id : ℕ) → IsOpenBy es t id → (place : ℕ) × ((f : IsFlyingAt (issues_of es) place t) × (f.issue.id ≡ id))
+flying_place es t id o =
+    let p = issue_at 0 es o.place id t o.issued in
+    let later : List Happened = drop (suc o.place) es in
+    let i : Issued = record { round = p.1.0; id = id; tag = t; outcome = outcome_of t later } in
+    let flies : outcome_of t later ≡ Flying = flying_is (outcome_of t later) (flies_on t later (λ j d. o.not_done (suc o.place + j) (omega arith) (ends_later es o.place j t d))) in
+    (p.0, (record { issue = i; there = p.1.1; under = refl; flies = flies }, refl))
+
 pub get_map : {X Y : Type 0} (f : X → Y) (xs : List X) (k : ℕ) (y : Y) → slice_get (map f xs) k ≡ Some y → (x : X) × (slice_get xs k ≡ Some x) × (f x ≡ y)
 get_map f [] k y h = absurd (cc)
 get_map f (x ∷ xs) zero y h = (x, refl, cc)
@@ -208,6 +222,38 @@ map_get f (z ∷ xs) (suc k) x h = map_get f xs k x h
 -- the same Issue, but for what became of it
 abbrev pub with_outcome : Issued → Outcome → Issued
 with_outcome i n = record { round = i.round; id = i.id; tag = i.tag; outcome = n }
+
+-- an end changes no more than an Issue's outcome, and what flies after it is as it was
+same_but : (b : Bool) (i : Issued) (n : Outcome) → cond b (with_outcome i n) i ≡ with_outcome i (cond b (with_outcome i n) i).outcome
+same_but true i n = refl
+same_but false i n = refl
+
+ended_is : (t : ℕ) (n : Outcome) (i : Issued) → ended_by t n i ≡ with_outcome i (ended_by t n i).outcome
+ended_is t n i = same_but (flies i.outcome && (t == i.tag)) i n
+
+pub ended_round : (t : ℕ) (n : Outcome) (i : Issued) → (ended_by t n i).round ≡ i.round
+ended_round t n i = ap (λ (x : Issued). x.round) (ended_is t n i)
+
+pub ended_id : (t : ℕ) (n : Outcome) (i : Issued) → (ended_by t n i).id ≡ i.id
+ended_id t n i = ap (λ (x : Issued). x.id) (ended_is t n i)
+
+pub ended_tag : (t : ℕ) (n : Outcome) (i : Issued) → (ended_by t n i).tag ≡ i.tag
+ended_tag t n i = ap (λ (x : Issued). x.tag) (ended_is t n i)
+
+-- what ends flies no more
+end_is : (b : Bool) → flies (cond b Back Done) ≡ false
+end_is true = refl
+end_is false = refl
+
+pub end_lands : (e : Happened) → flies (end_of e) ≡ false
+end_lands e = end_is (is_some (requeues e))
+
+pub flew : (t : ℕ) (n : Outcome) (i : Issued) → (n ≡ Flying → ⊥) → (ended_by t n i).outcome ≡ Flying → ended_by t n i ≡ i
+flew t n i lands h =
+    elim (cases_Bool (flies i.outcome && (t == i.tag))) [
+      | inl b ↦ absurd (lands (ap (λ c. (cond c (with_outcome i n) i).outcome) (sym b) ∙ h))
+      | inr b ↦ ap (λ c. cond c (with_outcome i n) i) b
+    ]
 
 none_ended : (t : ℕ) (n : Outcome) (xs : List Issued) → ((k : ℕ) (i : Issued) → slice_get xs k ≡ Some i → (flies i.outcome && (t == i.tag)) ≡ false) → map (ended_by t n) xs ≡ xs
 none_ended t n [] h = refl

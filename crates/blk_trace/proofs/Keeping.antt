@@ -1,9 +1,10 @@
 -- What a trace keeps stays true with one more event.
-use Rattle.std.proofs.Common.{◌≡◌, ◌<◌, ◌≤◌, ◌+◌, ◌-◌, ◌++◌, ◌==◌, ◌||◌, inl, inr, option_map, ℕ, zero, suc, List, [], ◌∷◌, length, refl, sym, ◌∙◌, ap, subst, arith, cond, Bool, true, false, Some, None, set, take, map, eqb-true, eq-eqb, ◌≢◌}
+use Rattle.std.proofs.Common.{◌≡◌, ◌<◌, ◌≤◌, ◌+◌, ◌-◌, ◌++◌, ◌==◌, ◌||◌, inl, inr, option_map, ℕ, zero, suc, List, [], ◌∷◌, length, refl, sym, ◌∙◌, ap, subst, arith, cond, Bool, true, false, Some, None, set, take, map, eqb-true, eq-eqb, length-set}
 use Rattle.std.specs.Prelude.{◌&&◌, Option, Result, Ok, Err, replicate}
 use Rattle.std.specs.Result.{is_err, OnOk, OnErr}
 use Rattle.std.specs.List.{cons_option}
 use Rattle.std.proofs.lemmas.Bool.{cases_Bool, and_parts, and_from}
+use Rattle.std.proofs.lemmas.List.{length-replicate}
 use Rattle.blk_bio.specs.Bios.{Bio}
 use Rattle.blk_bio.specs.declared.bio.BioId.{BioId}
 use Rattle.blk_bio.specs.Requests.{IsRequest, Fits, dir_of}
@@ -13,15 +14,13 @@ use Rattle.blk_trace.specs.declared.issued.Issued.{Issued}
 use Rattle.blk_trace.specs.declared.known.Entry.{Entry}
 use Rattle.blk_trace.specs.declared.known.Stage.TheVariants.{Waits, Gone, Requeued}
 use Rattle.blk_trace.specs.declared.known.Known.{Known}
-use Rattle.blk_trace.specs.declared.tags.TagUse.{TagUse}
-use Rattle.blk_trace.specs.declared.tags.TagUse.TheVariants.{Free, Open, Ended}
 use Rattle.blk_trace.specs.declared.trace.Prepared.{Prepared}
 use Rattle.blk_trace.specs.declared.trace.Prepared.TheVariants.{Nothing, AnIssue, Bios}
-use Rattle.blk_bio.specs.declared.rule.TraceRule.TheVariants.{InFlight, Fit, TagUsed}
+use Rattle.blk_bio.specs.declared.rule.TraceRule.TheVariants.{Fit}
 use Rattle.blk_trace.specs.Happened.{Happened, Tick, Release, Join, Issue, Done, Back, Depth}
 use Rattle.blk_trace.specs.Kinds.{releases, joins, issues, ends}
 use Rattle.blk_trace.specs.Setups.{Setup, IsSetup, expire_of}
-use Rattle.blk_trace.specs.Events.{round_of, open_count, entered, bios_of, join_up, request_of, EntersRequest, IsOpen, IsOpenBy, IsUsed}
+use Rattle.blk_trace.specs.Events.{round_of, open_count, entered, bios_of, join_up, request_of, IsOpenBy}
 use Rattle.blk_trace.specs.Legal.{IsLegalTrace}
 use Rattle.blk_trace.specs.Rules.{BreaksNoRule}
 use Rattle.blk_trace.specs.Meaning.{served, issued_ids, released_ids}
@@ -29,18 +28,18 @@ use Rattle.blk_trace.specs.Issues.{end_of, flies, issues_from, issues_of}
 use Rattle.blk_trace.specs.Inside.Issues.{ended_by}
 use Rattle.blk_trace.specs.Waits.{Entered, summary, entered_at, has_id, waits_at}
 use Rattle.blk_trace.specs.Traces.{IsPreparedFor}
-use Rattle.blk_trace.specs.Inside.Kept.{request_at, ArePlaced, IsFlyingAt, IsKeptTrace, HasRoom, known_of, has_bio_id, event_room, request_room, bio_room, IsTagUse}
+use Rattle.blk_trace.specs.Inside.Kept.{request_at, IsFlyingAt, tags_of, IsKeptTrace, HasRoom, known_of, has_bio_id, event_room, request_room, bio_room}
 use Rattle.blk_trace.proofs.Pushing.{push_legal, empty_legal}
 use Rattle.blk_trace.proofs.More.{round_more}
 use Rattle.blk_trace.proofs.Room.{open_kept, open_issue, open_end}
-use Rattle.blk_trace.proofs.Places.{last, split}
-use Rattle.blk_trace.proofs.Ids.{by_legal, released_first}
+use Rattle.blk_trace.proofs.Ids.{released_first}
 use Rattle.blk_trace.proofs.Newness.{ids_more}
 use Rattle.blk_trace.proofs.Requeues.{open_issued}
 use Rattle.std.specs.Prelude.{slice_get}
 use Rattle.blk_trace.proofs.Knowing.{known_at, known_kept, known_released, known_joined, known_issued, known_requeued_id}
-use Rattle.blk_trace.proofs.Issues.{issues_kept, issues_push, issues_ended, flying_by, flying_is, set_ended, with_outcome}
-use Rattle.blk_trace.proofs.TagUses.{tags_ticked, tags_kept, tags_issued, tags_ended, tags_empty, open_found, by_open, written}
+use Rattle.blk_trace.proofs.Issues.{issues_kept, issues_push, issues_ended, flying_is, set_ended, with_outcome}
+use Rattle.blk_trace.proofs.Steady.{AreSteady, steady}
+use Rattle.blk_trace.proofs.Last.{ended_tags, last_same, last_empty, last_issued}
 use Rattle.blk_trace.proofs.Joining.{join_request}
 use Rattle.blk_trace.proofs.Entering.{IsSame, same_entered, HasNothing, nothing_before, IsEntered, entered_released, entered_joined, has_released_same}
 use Rattle.blk_trace.proofs.Waiting.{IsThere, there_from, request_there, waits_there}
@@ -51,15 +50,6 @@ or_none false = refl
 
 same_ids : (es : List Happened) (e : Happened) (id : BioId) → bios_of e ≡ [] → has_bio_id (entered (es ++ e ∷ [])) id ≡ has_bio_id (entered es) id
 same_ids es e id h = ids_more es e id ∙ ap (λ l. has_bio_id (entered es) id || has_bio_id l id) h ∙ or_none _
-
-replicated : {X : Type 0} (n : ℕ) (x : X) → length (replicate n x) ≡ n
-replicated zero x = refl
-replicated (suc n) x = ap suc (replicated n x)
-
-length_set : {X : Type 0} (xs : List X) (k : ℕ) (x : X) → length (set xs k x) ≡ length xs
-length_set [] k x = refl
-length_set (y ∷ xs) zero x = refl
-length_set (y ∷ xs) (suc k) x = ap suc (length_set xs k x)
 
 -- what was released under an id is a request
 abbrev AreRequests : List Happened → Type 0
@@ -101,37 +91,19 @@ requests_joined setup es i bios all request old id h =
           subst IsRequest (sym same.request) (old id was)
     ]
 
-requests_more : (setup : Setup) (es : List Happened) (e : Happened) → IsLegalTrace setup es → BreaksNoRule setup es e → EntersRequest e → AreRequests es → AreRequests (es ++ e ∷ [])
-requests_more setup es (Release i bios) legal all some old = requests_released setup es i bios legal all some old
-requests_more setup es (Join i bios) legal all some old = requests_joined setup es i bios all some old
-requests_more setup es e legal all some old = requests_kept setup es e refl refl old
-
-none_released : AreRequests []
-unfolding released_ids
-none_released id h = absurd (cc)
-
-pub requests_legal : (setup : Setup) (es : List Happened) → IsLegalTrace setup es → (id : ℕ) → has_id (released_ids es) id ≡ true → IsRequest (request_of es id)
-requests_legal setup es legal =
-    by_legal setup AreRequests none_released (λ es e new old all ih. requests_more setup es e old all (new.are_requests (length es) e (last es e)) ih) es legal
-
 -- the bios of a request that was released
 pub entered_request : (setup : Setup) (es : List Happened) (id : ℕ) (w : Entered) → ((id : ℕ) → has_id (released_ids es) id ≡ true → IsRequest (request_of es id)) → request_at setup es id ≡ Some w → IsRequest w.bios
 entered_request setup es id w some h =
     let was : IsThere setup es id w = there_from setup es id w h in
     subst IsRequest (sym was.bios_is) (some id was.released)
 
--- what flies is open
-flying_open : (setup : Setup) (es : List Happened) (cs : List Issued) (round opened : ℕ) (known : ℕ → Option Known) (ids : BioId → Bool) (tags : List TagUse)
-    → IsKeptTrace setup es cs round opened known ids tags → (j : ℕ) (i : Issued) → slice_get cs j ≡ Some i → i.outcome ≡ outcome.Flying → IsOpen es i.tag
-flying_open setup es cs round opened known ids tags k j i at is = by_open es i.tag i.id (flying_by es j i (ap (λ l. slice_get l j) (sym k.issued_are) ∙ at) is)
-
-pub kept_tick : (setup : Setup) (es zs : List Happened) (cs : List Issued) (round opened : ℕ) (known : ℕ → Option Known) (ids : BioId → Bool) (tags tags' : List TagUse)
-    → IsKeptTrace setup es cs round opened known ids tags → BreaksNoRule setup es Tick → zs ≡ es ++ Tick ∷ [] → tags' ≡ replicate (length tags) Free
-    → IsKeptTrace setup zs cs (round + 1) opened known ids tags'
-kept_tick setup es zs cs round opened known ids tags tags' k all hz ht =
+pub kept_tick : (setup : Setup) (es zs : List Happened) (cs : List Issued) (round opened : ℕ) (known : ℕ → Option Known) (ids : BioId → Bool) (tags : List (Option ℕ))
+    → IsKeptTrace setup es cs round opened known ids tags → BreaksNoRule setup es Tick → zs ≡ es ++ Tick ∷ []
+    → IsKeptTrace setup zs cs (round + 1) opened known ids tags
+kept_tick setup es zs cs round opened known ids tags k all hz =
     let new = push_legal setup es Tick k.legal all tt in
-    let P : List Happened → List TagUse → Type 0 = λ l t. IsKeptTrace setup l cs (round + 1) opened known ids t in
-    let here : P (es ++ Tick ∷ []) (replicate (length tags) Free) = record {
+    let P : List Happened → Type 0 = λ l. IsKeptTrace setup l cs (round + 1) opened known ids tags in
+    let here : P (es ++ Tick ∷ []) = record {
       ranges = k.ranges;
       legal = new;
       issued_are = k.issued_are ∙ sym (issues_kept 0 es Tick refl refl);
@@ -140,66 +112,35 @@ kept_tick setup es zs cs round opened known ids tags tags' k all hz ht =
       known_are = λ q. k.known_are q ∙ sym (known_kept setup es Tick refl refl refl refl q);
       requests_are = requests_kept setup es Tick refl refl k.requests_are;
       ids_are = λ id. k.ids_are id ∙ sym (same_ids es Tick id refl);
-      placed = λ j i at is. absurd (all InFlight i.tag (flying_open setup es cs round opened known ids tags k j i at is));
-      tags_are = tags_ticked es (length tags) (all InFlight);
-      each_tag = replicated (length tags) Free ∙ k.each_tag;
+      tags_are = k.tags_are;
+      each_tag = k.each_tag;
     } in
-    subst (λ t. P zs t) (sym ht) (subst (λ l. P l (replicate (length tags) Free)) (sym hz) here)
-
--- a tag that is set, and another
-there_now : {X : Type 0} (xs : List X) (k : ℕ) (x : X) → k < length xs → slice_get (set xs k x) k ≡ Some x
-there_now [] k x h = absurd (omega arith)
-there_now (y ∷ xs) zero x h = refl
-there_now (y ∷ xs) (suc k) x h = there_now xs k x (omega arith)
-
-other_tag : {X : Type 0} (xs : List X) (k j : ℕ) (x : X) → j ≢ k → (y : X) → slice_get xs j ≡ Some y → slice_get (set xs k x) j ≡ Some y
-other_tag [] k j x other y h = h
-other_tag (z ∷ xs) zero zero x other y h = absurd (other refl)
-other_tag (z ∷ xs) zero (suc j) x other y h = h
-other_tag (z ∷ xs) (suc k) zero x other y h = h
-other_tag (z ∷ xs) (suc k) (suc j) x other y h = other_tag xs k j x (λ e. other (ap suc e)) y h
-
-same_place : (a b : ℕ) → Some (Open a) ≡ Some (Open b) → a ≡ b
-same_place a b h = cc
-
--- the one that flies under a tag stands where the tag says
-only_there : (tag place : ℕ) (cs : List Issued) (tags : List TagUse) → ArePlaced cs tags → slice_get tags tag ≡ Some (Open place) → (j : ℕ) (i : Issued) → slice_get cs j ≡ Some i → i.outcome ≡ outcome.Flying → i.tag ≡ tag → j ≡ place
-only_there tag place cs tags placed at j i there is same = same_place j place (sym (placed j i there is) ∙ ap (slice_get tags) same ∙ at)
+    subst P (sym hz) here
 
 -- after the end of the Issue at a place
-pub record IsEndedAt (setup : Setup) (es : List Happened) (e : Happened) (tag place : ℕ) (i : Issued) (cs : List Issued) (tags : List TagUse) : Type 0 where
+pub record IsEndedAt (es : List Happened) (e : Happened) (place : ℕ) (i : Issued) (cs : List Issued) : Type 0 where
   pub issued_are : set cs place (with_outcome i (end_of e)) ≡ issues_of (es ++ e ∷ [])
-  pub placed : ArePlaced (set cs place (with_outcome i (end_of e))) (set tags tag Ended)
-  pub used : IsUsed es tag
+  pub tags_are : tags_of (set cs place (with_outcome i (end_of e))) ≡ tags_of cs
 
-pub ended_at : (setup : Setup) (es : List Happened) (e : Happened) (tag place : ℕ) (cs : List Issued) (round opened : ℕ) (known : ℕ → Option Known) (ids : BioId → Bool) (tags : List TagUse)
-    → IsKeptTrace setup es cs round opened known ids tags → IsOpen es tag → ends e ≡ Some tag → issues e ≡ None → (end_of e ≡ outcome.Flying → ⊥) → (f : IsFlyingAt cs place tag)
-    → IsEndedAt setup es e tag place f.issue cs tags
-ended_at setup es e tag place cs round opened known ids tags k o end none ended f =
-    let found = open_found setup es tags k.legal k.each_tag k.tags_are tag o in
-    let used : IsTagUse es tag (Open found.0) = k.tags_are tag (Open found.0) found.1 in
-    let here : place ≡ found.0 = only_there tag found.0 cs tags k.placed found.1 place f.issue f.there f.flies f.under in
-    let at : slice_get tags tag ≡ Some (Open place) = found.1 ∙ ap (λ n. Some (Open n)) (sym here) in
+pub ended_at : (setup : Setup) (es : List Happened) (e : Happened) (tag place : ℕ) (cs : List Issued) → IsLegalTrace setup es → cs ≡ issues_of es → ends e ≡ Some tag → issues e ≡ None → (f : IsFlyingAt cs place tag) → IsEndedAt es e place f.issue cs
+ended_at setup es e tag place cs legal are end none f =
+    let s : AreSteady cs (round_of es) = subst (λ (l : List Issued). AreSteady l (round_of es)) (sym are) (steady setup es legal) in
     let only : (j : ℕ) (i : Issued) → slice_get cs j ≡ Some i → (flies i.outcome && (tag == i.tag)) ≡ true → j ≡ place = λ j i there b.
     let both = and_parts (flies i.outcome) (tag == i.tag) b in
-    only_there tag place cs tags k.placed at j i there (flying_is i.outcome both.0) (sym (eqb-true tag i.tag both.1)) in
-    let here_it : (flies f.issue.outcome && (tag == f.issue.tag)) ≡ true = and_from (flies f.issue.outcome) (tag == f.issue.tag) (ap flies f.flies) (eq-eqb tag f.issue.tag (sym f.under)) in
+    s.once j place i f.issue there f.there (s.flies j i there (flying_is i.outcome both.0) ∙ sym (s.flies place f.issue f.there f.flies)) (sym (eqb-true tag i.tag both.1) ∙ sym f.under) in
+    let here : (flies f.issue.outcome && (tag == f.issue.tag)) ≡ true = and_from (flies f.issue.outcome) (tag == f.issue.tag) (ap flies f.flies) (eq-eqb tag f.issue.tag (sym f.under)) in
+    let now : set cs place (with_outcome f.issue (end_of e)) ≡ map (ended_by tag (end_of e)) cs = set_ended tag (end_of e) cs place f.issue f.there here only in
     record {
-      issued_are = set_ended tag (end_of e) cs place f.issue f.there here_it only ∙ ap (map (ended_by tag (end_of e))) k.issued_are ∙ sym (issues_ended 0 tag es e end none);
-      placed = λ j i there is.
-          elim (written cs place (with_outcome f.issue (end_of e)) j i there) [
-            | inl p ↦ absurd (ended (ap (λ (x : Issued). x.outcome) p.1 ∙ is))
-            | inr p ↦ other_tag tags tag i.tag Ended (λ same. p.0 (only_there tag place cs tags k.placed at j i p.1 is same)) (Open j) (k.placed j i p.1 is)
-          ];
-      used = used.0;
+      issued_are = now ∙ ap (map (ended_by tag (end_of e))) are ∙ sym (issues_ended 0 tag es e end none);
+      tags_are = ap tags_of now ∙ ended_tags tag (end_of e) cs;
     }
 
-pub kept_done : (setup : Setup) (es zs : List Happened) (tag place : ℕ) (i : Issued) (cs : List Issued) (round opened : ℕ) (known : ℕ → Option Known) (ids : BioId → Bool) (tags : List TagUse)
-    → IsKeptTrace setup es cs round opened known ids tags → BreaksNoRule setup es (Done tag) → zs ≡ es ++ Done tag ∷ [] → IsEndedAt setup es (Done tag) tag place i cs tags
-    → IsKeptTrace setup zs (set cs place (with_outcome i outcome.Done)) round (opened - 1) known ids (set tags tag Ended)
+pub kept_done : (setup : Setup) (es zs : List Happened) (tag place : ℕ) (i : Issued) (cs : List Issued) (round opened : ℕ) (known : ℕ → Option Known) (ids : BioId → Bool) (tags : List (Option ℕ))
+    → IsKeptTrace setup es cs round opened known ids tags → BreaksNoRule setup es (Done tag) → zs ≡ es ++ Done tag ∷ [] → IsEndedAt es (Done tag) place i cs
+    → IsKeptTrace setup zs (set cs place (with_outcome i outcome.Done)) round (opened - 1) known ids tags
 kept_done setup es zs tag place i cs round opened known ids tags k all hz x =
     let new = push_legal setup es (Done tag) k.legal all tt in
-    let P : List Happened → Type 0 = λ l. IsKeptTrace setup l (set cs place (with_outcome i outcome.Done)) round (opened - 1) known ids (set tags tag Ended) in
+    let P : List Happened → Type 0 = λ l. IsKeptTrace setup l (set cs place (with_outcome i outcome.Done)) round (opened - 1) known ids tags in
     let here : P (es ++ Done tag ∷ []) = record {
       ranges = k.ranges;
       legal = new;
@@ -209,20 +150,19 @@ kept_done setup es zs tag place i cs round opened known ids tags k all hz x =
       known_are = λ q. k.known_are q ∙ sym (known_kept setup es (Done tag) refl refl refl refl q);
       requests_are = requests_kept setup es (Done tag) refl refl k.requests_are;
       ids_are = λ id. k.ids_are id ∙ sym (same_ids es (Done tag) id refl);
-      placed = x.placed;
-      tags_are = tags_ended es (Done tag) tags tag refl x.used k.tags_are;
-      each_tag = length_set tags tag Ended ∙ k.each_tag;
+      tags_are = last_same cs _ tags x.tags_are k.tags_are;
+      each_tag = k.each_tag;
     } in
     subst P (sym hz) here
 
 -- after a Back its request waits again
-pub kept_back : (setup : Setup) (es zs : List Happened) (tag place id : ℕ) (i : Issued) (cs : List Issued) (round opened : ℕ) (known known' : ℕ → Option Known) (ids : BioId → Bool) (tags : List TagUse)
-    → IsKeptTrace setup es cs round opened known ids tags → BreaksNoRule setup es (Back tag) → IsOpenBy es tag id → zs ≡ es ++ Back tag ∷ [] → IsEndedAt setup es (Back tag) tag place i cs tags
+pub kept_back : (setup : Setup) (es zs : List Happened) (tag place id : ℕ) (i : Issued) (cs : List Issued) (round opened : ℕ) (known known' : ℕ → Option Known) (ids : BioId → Bool) (tags : List (Option ℕ))
+    → IsKeptTrace setup es cs round opened known ids tags → BreaksNoRule setup es (Back tag) → IsOpenBy es tag id → zs ≡ es ++ Back tag ∷ [] → IsEndedAt es (Back tag) place i cs
     → ((q : ℕ) → known' q ≡ cond (id == q) (Some (known_at Requeued (entered_at setup es id))) (known q))
-    → IsKeptTrace setup zs (set cs place (with_outcome i outcome.Back)) round (opened - 1) known' ids (set tags tag Ended)
+    → IsKeptTrace setup zs (set cs place (with_outcome i outcome.Back)) round (opened - 1) known' ids tags
 kept_back setup es zs tag place id i cs round opened known known' ids tags k all by hz x hk =
     let new = push_legal setup es (Back tag) k.legal all tt in
-    let P : List Happened → Type 0 = λ l. IsKeptTrace setup l (set cs place (with_outcome i outcome.Back)) round (opened - 1) known' ids (set tags tag Ended) in
+    let P : List Happened → Type 0 = λ l. IsKeptTrace setup l (set cs place (with_outcome i outcome.Back)) round (opened - 1) known' ids tags in
     let here : P (es ++ Back tag ∷ []) = record {
       ranges = k.ranges;
       legal = new;
@@ -232,21 +172,20 @@ kept_back setup es zs tag place id i cs round opened known known' ids tags k all
       known_are = λ q. hk q ∙ ap (λ x. cond (id == q) (Some (known_at Requeued (entered_at setup es id))) x) (k.known_are q) ∙ sym (known_requeued_id setup es tag id k.legal by (entered_at setup es id) (request_there setup es id (released_first setup es id k.legal (open_issued es tag id by))) q);
       requests_are = requests_kept setup es (Back tag) refl refl k.requests_are;
       ids_are = λ b. k.ids_are b ∙ sym (same_ids es (Back tag) b refl);
-      placed = x.placed;
-      tags_are = tags_ended es (Back tag) tags tag refl x.used k.tags_are;
-      each_tag = length_set tags tag Ended ∙ k.each_tag;
+      tags_are = last_same cs _ tags x.tags_are k.tags_are;
+      each_tag = k.each_tag;
     } in
     subst P (sym hz) here
 
-pub kept_issue : (setup : Setup) (es zs : List Happened) (id tag place : ℕ) (w : Entered) (cs ds : List Issued) (round opened : ℕ) (known known' : ℕ → Option Known) (ids : BioId → Bool) (tags : List TagUse)
-    → IsKeptTrace setup es cs round opened known ids tags → BreaksNoRule setup es (Issue id tag) → zs ≡ es ++ Issue id tag ∷ [] → tag < length tags
+pub kept_issue : (setup : Setup) (es zs : List Happened) (id tag place : ℕ) (w : Entered) (cs ds : List Issued) (round opened : ℕ) (known known' : ℕ → Option Known) (ids : BioId → Bool) (tags : List (Option ℕ))
+    → IsKeptTrace setup es cs round opened known ids tags → BreaksNoRule setup es (Issue id tag) → zs ≡ es ++ Issue id tag ∷ []
     → waits_at setup es id ≡ Some w → place ≡ length cs → ds ≡ cs ++ record { round = round; id = id; tag = tag; outcome = outcome.Flying } ∷ []
     → ((q : ℕ) → known' q ≡ cond (id == q) (Some (known_at Gone w)) (known q))
-    → IsKeptTrace setup zs ds round (opened + 1) known' ids (set tags tag (Open place))
-kept_issue setup es zs id tag place w cs ds round opened known known' ids tags k all hz low waits hp hd hk =
+    → IsKeptTrace setup zs ds round (opened + 1) known' ids (set tags tag (Some place))
+kept_issue setup es zs id tag place w cs ds round opened known known' ids tags k all hz waits hp hd hk =
     let new = push_legal setup es (Issue id tag) k.legal all tt in
     let i : Issued = record { round = round; id = id; tag = tag; outcome = outcome.Flying } in
-    let P : List Happened → List Issued → Type 0 = λ l is. IsKeptTrace setup l is round (opened + 1) known' ids (set tags tag (Open place)) in
+    let P : List Happened → List Issued → Type 0 = λ l is. IsKeptTrace setup l is round (opened + 1) known' ids (set tags tag (Some place)) in
     let here : P (es ++ Issue id tag ∷ []) (cs ++ i ∷ []) = record {
       ranges = k.ranges;
       legal = new;
@@ -256,17 +195,12 @@ kept_issue setup es zs id tag place w cs ds round opened known known' ids tags k
       known_are = λ q. hk q ∙ ap (λ x. cond (id == q) (Some (known_at Gone w)) x) (k.known_are q) ∙ sym (known_issued setup es id tag new w (waits_there setup es id w waits).1 q);
       requests_are = requests_kept setup es (Issue id tag) refl refl k.requests_are;
       ids_are = λ b. k.ids_are b ∙ sym (same_ids es (Issue id tag) b refl);
-      placed = λ j x there is.
-          elim (split cs i j x there) [
-            | inl p ↦ other_tag tags tag x.tag (Open place) (λ same. absurd (all TagUsed (subst (IsUsed es) same (k.tags_are x.tag (Open j) (k.placed j x p is)).0))) (Open j) (k.placed j x p is)
-            | inr p ↦ subst (λ (y : Issued). slice_get (set tags tag (Open place)) y.tag ≡ Some (Open j)) p.1 (there_now tags tag (Open place) low ∙ ap (λ n. Some (Open n)) (hp ∙ sym p.0))
-          ];
-      tags_are = tags_issued es tags id tag place (hp ∙ ap length k.issued_are) k.tags_are;
-      each_tag = length_set tags tag (Open place) ∙ k.each_tag;
+      tags_are = last_issued cs i tags place hp k.tags_are;
+      each_tag = length-set tags tag (Some place) ∙ k.each_tag;
     } in
     subst (λ l. P l ds) (sym hz) (subst (λ is. P (es ++ Issue id tag ∷ []) is) (sym hd) here)
 
-pub kept_release : (setup : Setup) (es zs : List Happened) (id : ℕ) (bios : List Bio) (s : Entry) (cs : List Issued) (round opened : ℕ) (known known' : ℕ → Option Known) (ids ids' : BioId → Bool) (tags : List TagUse)
+pub kept_release : (setup : Setup) (es zs : List Happened) (id : ℕ) (bios : List Bio) (s : Entry) (cs : List Issued) (round opened : ℕ) (known known' : ℕ → Option Known) (ids ids' : BioId → Bool) (tags : List (Option ℕ))
     → IsKeptTrace setup es cs round opened known ids tags → BreaksNoRule setup es (Release id bios) → zs ≡ es ++ Release id bios ∷ [] → IsRequest bios
     → s ≡ summary record { release = round; due = round + expire_of setup (dir_of bios); bios = bios }
     → ((q : ℕ) → known' q ≡ cond (id == q) (Some (record { stage = Waits; entry = s })) (known q)) → ((b : BioId) → ids' b ≡ (ids b || has_bio_id bios b))
@@ -284,13 +218,12 @@ kept_release setup es zs id bios s cs round opened known known' ids ids' tags k 
       known_are = λ q. hk q ∙ ap (λ x. cond (id == q) (Some (record { stage = Waits; entry = s })) x) (k.known_are q) ∙ ap (λ x. cond (id == q) (Some (let y : Known = record { stage = Waits; entry = x } in y)) (known_of setup es q)) now ∙ sym (known_released setup es id bios new q);
       requests_are = requests_released setup es id bios k.legal all request k.requests_are;
       ids_are = λ b. hb b ∙ ap (λ x. x || has_bio_id bios b) (k.ids_are b) ∙ sym (ids_more es (Release id bios) b);
-      placed = k.placed;
-      tags_are = tags_kept es (Release id bios) tags refl refl refl k.tags_are;
+      tags_are = k.tags_are;
       each_tag = k.each_tag;
     } in
     subst P (sym hz) here
 
-pub kept_join : (setup : Setup) (es zs : List Happened) (id : ℕ) (bios : List Bio) (w : Entered) (s : Entry) (cs : List Issued) (round opened : ℕ) (known known' : ℕ → Option Known) (ids ids' : BioId → Bool) (tags : List TagUse)
+pub kept_join : (setup : Setup) (es zs : List Happened) (id : ℕ) (bios : List Bio) (w : Entered) (s : Entry) (cs : List Issued) (round opened : ℕ) (known known' : ℕ → Option Known) (ids ids' : BioId → Bool) (tags : List (Option ℕ))
     → IsKeptTrace setup es cs round opened known ids tags → BreaksNoRule setup es (Join id bios) → zs ≡ es ++ Join id bios ∷ [] → IsRequest bios
     → request_at setup es id ≡ Some w → s ≡ summary record { release = round; due = w.due; bios = join_up w.bios bios }
     → ((q : ℕ) → known' q ≡ cond (id == q) (Some (record { stage = Waits; entry = s })) (known q)) → ((b : BioId) → ids' b ≡ (ids b || has_bio_id bios b))
@@ -308,13 +241,12 @@ kept_join setup es zs id bios w s cs round opened known known' ids ids' tags k a
       known_are = λ q. hk q ∙ ap (λ x. cond (id == q) (Some (record { stage = Waits; entry = s })) x) (k.known_are q) ∙ ap (λ x. cond (id == q) (Some (let y : Known = record { stage = Waits; entry = x } in y)) (known_of setup es q)) now ∙ sym (known_joined setup es id bios new w there q);
       requests_are = requests_joined setup es id bios all request k.requests_are;
       ids_are = λ b. hb b ∙ ap (λ x. x || has_bio_id bios b) (k.ids_are b) ∙ sym (ids_more es (Join id bios) b);
-      placed = k.placed;
-      tags_are = tags_kept es (Join id bios) tags refl refl refl k.tags_are;
+      tags_are = k.tags_are;
       each_tag = k.each_tag;
     } in
     subst P (sym hz) here
 
-pub kept_depth : (setup : Setup) (es zs : List Happened) (depth : ℕ) (cs : List Issued) (round opened : ℕ) (known : ℕ → Option Known) (ids : BioId → Bool) (tags : List TagUse)
+pub kept_depth : (setup : Setup) (es zs : List Happened) (depth : ℕ) (cs : List Issued) (round opened : ℕ) (known : ℕ → Option Known) (ids : BioId → Bool) (tags : List (Option ℕ))
     → IsKeptTrace setup es cs round opened known ids tags → BreaksNoRule setup es (Depth depth) → zs ≡ es ++ Depth depth ∷ []
     → IsKeptTrace setup zs cs round opened known ids tags
 kept_depth setup es zs depth cs round opened known ids tags k all hz =
@@ -329,14 +261,13 @@ kept_depth setup es zs depth cs round opened known ids tags k all hz =
       known_are = λ q. k.known_are q ∙ sym (known_kept setup es (Depth depth) refl refl refl refl q);
       requests_are = requests_kept setup es (Depth depth) refl refl k.requests_are;
       ids_are = λ id. k.ids_are id ∙ sym (same_ids es (Depth depth) id refl);
-      placed = k.placed;
-      tags_are = tags_kept es (Depth depth) tags refl refl refl k.tags_are;
+      tags_are = k.tags_are;
       each_tag = k.each_tag;
     } in
     subst P (sym hz) here
 
 -- the trace without events
-pub kept_empty : (setup : Setup) (known : ℕ → Option Known) (ids : BioId → Bool) (n : ℕ) → ((q : ℕ) → known q ≡ None) → ((b : BioId) → ids b ≡ false) → n ≡ setup.depth → IsSetup setup → IsKeptTrace setup [] [] 0 0 known ids (replicate n Free)
+pub kept_empty : (setup : Setup) (known : ℕ → Option Known) (ids : BioId → Bool) (n : ℕ) → ((q : ℕ) → known q ≡ None) → ((b : BioId) → ids b ≡ false) → n ≡ setup.depth → IsSetup setup → IsKeptTrace setup [] [] 0 0 known ids (replicate n None)
 unfolding entered open_count round_of issues_from issued_ids released_ids served known_of request_at
 kept_empty setup known ids n hk hb hn is = record {
   ranges = is;
@@ -347,13 +278,12 @@ kept_empty setup known ids n hk hb hn is = record {
   known_are = hk;
   requests_are = λ id h. absurd (cc);
   ids_are = hb;
-  placed = λ j i at is. absurd (cc);
-  tags_are = tags_empty n;
-  each_tag = replicated n Free ∙ hn;
+  tags_are = last_empty n;
+  each_tag = length-replicate n None ∙ hn;
 }
 
 -- the same where the lists are the same, and the maps by keys
-pub kept_same : (setup : Setup) (es es' : List Happened) (cs cs' : List Issued) (round opened : ℕ) (known known' : ℕ → Option Known) (ids ids' : BioId → Bool) (tags : List TagUse)
+pub kept_same : (setup : Setup) (es es' : List Happened) (cs cs' : List Issued) (round opened : ℕ) (known known' : ℕ → Option Known) (ids ids' : BioId → Bool) (tags : List (Option ℕ))
     → IsKeptTrace setup es cs round opened known ids tags → es' ≡ es → cs' ≡ cs → ((q : ℕ) → known' q ≡ known q) → ((b : BioId) → ids' b ≡ ids b) → IsKeptTrace setup es' cs' round opened known' ids' tags
 kept_same setup es es' cs cs' round opened known known' ids ids' tags k he hc hk hb =
     let P : List Happened → List Issued → Type 0 = λ l is. IsKeptTrace setup l is round opened known' ids' tags in
@@ -366,14 +296,13 @@ kept_same setup es es' cs cs' round opened known known' ids ids' tags k he hc hk
       known_are = λ q. hk q ∙ k.known_are q;
       requests_are = k.requests_are;
       ids_are = λ b. hb b ∙ k.ids_are b;
-      placed = k.placed;
       tags_are = k.tags_are;
       each_tag = k.each_tag;
     })
 
-pub kept_tags : (setup : Setup) (es : List Happened) (cs : List Issued) (round opened : ℕ) (known : ℕ → Option Known) (ids : BioId → Bool) (tags tags' : List TagUse)
+pub kept_tags : (setup : Setup) (es : List Happened) (cs : List Issued) (round opened : ℕ) (known : ℕ → Option Known) (ids : BioId → Bool) (tags tags' : List (Option ℕ))
     → IsKeptTrace setup es cs round opened known ids tags → tags' ≡ tags → IsKeptTrace setup es cs round opened known ids tags'
-kept_tags setup es cs round opened known ids tags tags' k h = let P : List TagUse → Type 0 = λ t. IsKeptTrace setup es cs round opened known ids t in subst P (sym h) k
+kept_tags setup es cs round opened known ids tags tags' k h = let P : List (Option ℕ) → Type 0 = λ t. IsKeptTrace setup es cs round opened known ids t in subst P (sym h) k
 
 -- the room that is left
 pub room_after_tick : (p : Prepared) (n n' o c P P' C K I : ℕ) → IsPreparedFor p Tick → HasRoom p n o c P C K I → n' ≡ n + 1 → P ≤ P' → HasRoom Nothing n' o c P' C K I

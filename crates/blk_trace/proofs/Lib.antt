@@ -12,8 +12,10 @@ pub mod Entering
 pub mod Waiting
 pub mod Unissued
 pub mod Commands
-pub mod Seats
+pub mod TagUses
 pub mod Steady
+pub mod Last
+pub mod Seats
 pub mod Counting
 pub mod Opening
 pub mod Requeuing
@@ -27,7 +29,6 @@ pub mod First
 pub mod Room
 pub mod Asked
 pub mod Knowing
-pub mod TagUses
 pub mod Newness
 pub mod Joining
 pub mod Keeping
@@ -35,5 +36,4 @@ pub mod Gathering
 pub mod Rising
 pub mod Counted
 pub mod Bounds
-pub mod Seated
 mod Timing

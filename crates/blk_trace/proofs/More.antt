@@ -12,7 +12,6 @@ use Rattle.blk_trace.specs.Setups.{Setup}
 use Rattle.blk_trace.specs.Events.{is_tick, round_of, join_up, request_of}
 use Rattle.blk_trace.specs.Meaning.{timed, entry_round, entry_due, release_of, due_of, released_ids, greatest, least}
 use Rattle.blk_trace.specs.Waits.{was_issued}
-use Rattle.blk_trace.specs.Inside.Seats.{after_last_tick, this_round}
 
 -- the released ids
 pub released_more : (es fs : List Happened) → released_ids (es ++ fs) ≡ released_ids es ++ released_ids fs
@@ -26,6 +25,9 @@ more_of p es e = sum_by-append (λ (x : Happened). cond (p x) 1 0) es (e ∷ [])
 pub round_more : (es : List Happened) (e : Happened) → round_of (es ++ e ∷ []) ≡ round_of es + cond (is_tick e) 1 0
 unfolding round_of
 round_more es e = more_of is_tick es e
+
+pub round_still : (es : List Happened) (e : Happened) → is_tick e ≡ false → round_of (es ++ e ∷ []) ≡ round_of es
+round_still es e h = omega (arith, round_more es e ∙ ap (λ b. round_of es + cond b 1 0) h)
 
 -- there are no more rounds than events
 pub rounds_within : (es : List Happened) → round_of es ≤ length es
@@ -98,12 +100,3 @@ due_is setup es id = refl
 pub dues_more : (setup : Setup) (es : List Happened) (e : Happened) (id : ℕ) → dues setup (es ++ e ∷ []) id ≡ dues setup es id ++ cons_option (entry_due setup id (round_of es, e)) []
 unfolding dues
 dues_more setup es e id = timed_part (entry_due setup id) es e
-
--- the round that is on
-after_more : (before es : List Happened) (e : Happened) → after_last_tick before (es ++ e ∷ []) ≡ cond (is_tick e) [] (after_last_tick before es ++ e ∷ [])
-after_more before [] e = refl
-after_more before (x ∷ es) e = after_more (cond (is_tick x) [] (before ++ x ∷ [])) es e
-
-pub now_more : (es : List Happened) (e : Happened) → this_round (es ++ e ∷ []) ≡ cond (is_tick e) [] (this_round es ++ e ∷ [])
-unfolding this_round
-now_more es e = after_more [] es e

@@ -1,9 +1,8 @@
 -- How many commands of each direction are in flight after one more event.
-use Rattle.std.proofs.Common.{◌≡◌, ◌<◌, ◌≤◌, ◌+◌, ◌++◌, ◌==◌, ℕ, suc, List, [], ◌∷◌, length, get_or, refl, sym, ◌∙◌, ap, subst, arith, inl, inr, Some, None, append-nil, cond, Bool, true, false, ne_eqb, eq-eqb, eqb-true, length-append}
-use Rattle.std.specs.Prelude.{Option, is_some, count_by, filter, slice_get, All, ◌↔◌, IsTrue}
+use Rattle.std.proofs.Common.{◌≡◌, ◌<◌, ◌≤◌, ◌+◌, ◌++◌, ℕ, suc, List, [], ◌∷◌, length, get_or, refl, sym, ◌∙◌, ap, subst, arith, inl, inr, Some, None, cond, Bool, true, false, length-append}
+use Rattle.std.specs.Prelude.{count_by, filter, slice_get, All, ◌↔◌, IsTrue}
 use lib.Dec.{ltb}
-use Rattle.std.specs.List.{filter_map, cons_option}
-use Rattle.std.proofs.lemmas.List.Elements.{filter-append, filter_map-append, All-filter}
+use Rattle.std.proofs.lemmas.List.Elements.{filter-append, All-filter}
 use Rattle.std.proofs.lemmas.Option.{slice_get-get_or}
 use Rattle.std.proofs.lemmas.Bool.{cases_Bool, ltb-true, lt-ltb, false_from_ne_true}
 use Rattle.std.proofs.lemmas.List.Sums.{sum_by-cons, sum_by-append}
@@ -11,76 +10,29 @@ use Rattle.blk_bio.specs.Bios.{Bio}
 use Rattle.blk_bio.specs.declared.bio.Dir.{Dir}
 use Rattle.blk_bio.specs.declared.bio.Dir.TheVariants.{Read, Write}
 use Rattle.blk_bio.specs.Requests.{dir_of}
-use Rattle.blk_bio.specs.declared.rule.TraceRule.TheVariants.{TagUsed, NotIssued, InFlight}
+use Rattle.blk_bio.specs.declared.rule.TraceRule.TheVariants.{NotIssued, InFlight}
 use Rattle.blk_trace.specs.declared.issued.Outcome.TheVariants as outcome
 use Rattle.blk_trace.specs.declared.issued.Issued.{Issued}
 use Rattle.blk_trace.specs.Happened.{Happened, Tick, Release, Join, Issue, Done, Back}
-use Rattle.blk_trace.specs.Kinds.{issues, ends, requeues, is_issue, is_end}
+use Rattle.blk_trace.specs.Kinds.{issues, ends, is_issue, is_end}
 use Rattle.blk_trace.specs.Setups.{Setup, same_dir}
-use Rattle.blk_trace.specs.Events.{is_tick, round_of, open_count, request_of, IsOpen, IsOpenBy}
+use Rattle.blk_trace.specs.Events.{round_of, open_count, request_of, IsOpen, IsOpenBy}
 use Rattle.blk_trace.specs.Issues.{end_of, issues_from, issues_of, flies, flying}
 use Rattle.blk_trace.specs.Legal.{IsLegalTrace}
 use Rattle.blk_trace.specs.Rules.{BreaksNoRule}
 use Rattle.blk_trace.specs.Waits.{Entered, waits_at}
-use Rattle.blk_trace.specs.Inside.Seats.{seat_at, this_round, issued_by, issue_tag, flying_of}
+use Rattle.blk_trace.specs.Inside.Seats.{seat_at, flying_of}
 use Rattle.blk_trace.proofs.Words.{OnlyEnds, only_ends}
 use Rattle.blk_trace.proofs.Pushing.{shorter_legal, obeys}
 use Rattle.blk_trace.proofs.More.{more_of}
 use Rattle.blk_trace.proofs.Ids.{by_legal}
-use Rattle.blk_trace.proofs.Issues.{issues_kept, issues_push, flying_by, flying_is, was_so, with_outcome}
+use Rattle.blk_trace.proofs.Issues.{issues_kept, issues_push, flying_by, flying_is, was_so, with_outcome, end_lands}
 use Rattle.blk_trace.proofs.Entering.{same_entered, stays_out}
 use Rattle.blk_trace.proofs.Waiting.{waiting_from}
-use Rattle.blk_trace.proofs.Seats.{taken, ended, now_tick, now_push, taken_tick, taken_kept, taken_new, not_taken}
+use Rattle.blk_trace.proofs.Seats.{seat_flies}
 use Rattle.blk_trace.proofs.TagUses.{by_open}
-use Rattle.blk_trace.proofs.Steady.{IsSeat, seat_parts, steady, not_flying}
 use Rattle.blk_trace.proofs.Requeuing.{EndsOne, ends_one, open_by}
-use Rattle.blk_trace.proofs.Counting.{one_if, count_push}
-
--- the tags of the round, in the order of their Issues
-unfoldable pub tags : List Happened → List ℕ
-tags es = filter_map issue_tag (this_round es)
-
-pub tags_tick : (es : List Happened) → tags (es ++ Tick ∷ []) ≡ []
-unfolding tags
-tags_tick es = ap (filter_map issue_tag) (now_tick es)
-
-pub tags_more : (es : List Happened) (e : Happened) → is_tick e ≡ false → tags (es ++ e ∷ []) ≡ tags es ++ cons_option (issue_tag e) []
-unfolding tags
-tags_more es e h = ap (filter_map issue_tag) (now_push es e h) ∙ filter_map-append issue_tag (this_round es) (e ∷ [])
-
-pub tags_kept : (es : List Happened) (e : Happened) → is_tick e ≡ false → issue_tag e ≡ None → tags (es ++ e ∷ []) ≡ tags es
-tags_kept es e h n = tags_more es e h ∙ ap (λ o. tags es ++ cons_option o []) n ∙ append-nil _
-
--- a tag stands once among them where it is taken, and else not
-abbrev pub number : Option ℕ → ℕ
-number None = 0
-number (Some _) = 1
-
-once_kept : (u : ℕ) (es : List Happened) (e : Happened) → is_tick e ≡ false → issue_tag e ≡ None → issued_by u e ≡ None → count_by (λ t. u == t) (tags es) ≡ number (taken es u) → count_by (λ t. u == t) (tags (es ++ e ∷ [])) ≡ number (taken (es ++ e ∷ []) u)
-once_kept u es e h n i ih = ap (count_by (λ t. u == t)) (tags_kept es e h n) ∙ ih ∙ ap number (sym (taken_kept es e u h i))
-
-once_step : (setup : Setup) (u : ℕ) (es : List Happened) (e : Happened) → BreaksNoRule setup es e → count_by (λ t. u == t) (tags es) ≡ number (taken es u) → count_by (λ t. u == t) (tags (es ++ e ∷ [])) ≡ number (taken (es ++ e ∷ []) u)
-once_step setup u es Tick all ih = ap (count_by (λ t. u == t)) (tags_tick es) ∙ ap number (sym (taken_tick es u))
-once_step setup u es (Issue i v) all ih =
-    let more : count_by (λ t. u == t) (tags (es ++ Issue i v ∷ [])) ≡ count_by (λ t. u == t) (tags es) + one_if (u == v) = ap (count_by (λ t. u == t)) (tags_more es (Issue i v) refl) ∙ count_push (λ t. u == t) (tags es) v in
-    elim (cases_Bool (v == u)) [
-      | inl b ↦
-          let same : v ≡ u = eqb-true v u b in
-          let none : taken es u ≡ None = subst (λ x. taken es x ≡ None) same (not_taken es v (all TagUsed)) in
-          let before : number (taken es u) ≡ 0 = ap number none in
-          let one : one_if (u == v) ≡ 1 = rw (eq-eqb u v (sym same)) refl in
-          let now : number (taken (es ++ Issue i v ∷ []) u) ≡ 1 = ap number (taken_new es i v u b none) in
-          omega arith
-      | inr b ↦
-          let other : one_if (u == v) ≡ 0 = rw (ne_eqb u v (λ e. absurd (let t : (v == u) ≡ true = eq-eqb v u (sym e) in cc))) refl in
-          let kept : number (taken (es ++ Issue i v ∷ []) u) ≡ number (taken es u) = ap number (taken_kept es (Issue i v) u refl (rw b refl)) in
-          omega arith
-    ]
-once_step setup u es e all ih = once_kept u es e refl refl refl ih
-
-pub tag_count : (setup : Setup) (es : List Happened) (u : ℕ) → IsLegalTrace setup es → count_by (λ t. u == t) (tags es) ≡ number (taken es u)
-unfolding tags taken this_round
-tag_count setup es u legal = by_legal setup (λ l. count_by (λ t. u == t) (tags l) ≡ number (taken l u)) refl (λ l e new old all ih. once_step setup u l e all ih) es legal
+use Rattle.blk_trace.proofs.Counting.{one_if}
 
 -- the commands in flight of a direction, by their Issues
 abbrev is_of : List Happened → Dir → Issued → Bool
@@ -163,10 +115,6 @@ record LosesFlight (xs ys : List Issued) (id : ℕ) : Type 0 where
   were : flying xs ≡ before ++ issue ∷ after
   are : flying ys ≡ before ++ after
 
-lands : (b : Bool) → flies (cond b outcome.Back outcome.Done) ≡ false
-lands true = refl
-lands false = refl
-
 loses_flight : (setup : Setup) (es : List Happened) (e : Happened) (t id : ℕ) → IsLegalTrace setup es → IsOpenBy es t id → ends e ≡ Some t → LosesFlight (issues_of es) (issues_of (es ++ e ∷ [])) id
 loses_flight setup es e t id legal o end =
     let p : EndsOne (issues_of es) (issues_of (es ++ e ∷ [])) id (end_of e) = ends_one setup es e t id legal o end in
@@ -178,7 +126,7 @@ loses_flight setup es e t id legal o end =
       named = p.named;
       were = ap flying p.whole ∙ filter-append (λ i. flies i.outcome) p.before (i ∷ p.after) ∙ ap (λ o. flying p.before ++ cond (flies o) (i ∷ flying p.after) (flying p.after)) p.flying;
       are = ap flying p.now ∙ filter-append (λ i. flies i.outcome) p.before (with_outcome i (end_of e) ∷ p.after)
-          ∙ ap (λ b. flying p.before ++ cond b (with_outcome i (end_of e) ∷ flying p.after) (flying p.after)) (lands (is_some (requeues e)));
+          ∙ ap (λ b. flying p.before ++ cond b (with_outcome i (end_of e) ∷ flying p.after) (flying p.after)) (end_lands e);
     }
 
 pub open_ended : (setup : Setup) (events : List Happened) (e : Happened) (tag : ℕ) → IsLegalTrace setup (events ++ e ∷ []) → ends e ≡ Some tag → (dir : Dir) → seat_at events tag ≡ Some (record { dir = dir; in_flight = true }) → (d : Dir) → flying_of (events ++ e ∷ []) d + cond (same_dir d dir) 1 0 ≡ flying_of events d
@@ -186,12 +134,12 @@ open_ended setup events e tag legal end dir taken_is d =
     let fs : List Happened = events ++ e ∷ [] in
     let old = shorter_legal setup events _ legal in
     let only : OnlyEnds e = only_ends e tag end in
-    let was : IsSeat events tag (record { dir = dir; in_flight = true }) = seat_parts events tag _ taken_is in
-    let p = loses_flight setup events e tag was.id old ((steady setup events old).opens tag was.id was.taken_is (not_flying (ended events tag) was.flying_is)) end in
+    let was = seat_flies events tag dir taken_is in
+    let p = loses_flight setup events e tag was.0 old was.1 end in
     let f : Issued → Bool = is_of fs d in
     let here : one_if (f p.issue) ≡ one_if (same_dir d dir) = ap (λ n. one_if (same_dir d (dir_of (request_of fs n)))) p.named
-    ∙ ap (λ r. one_if (same_dir d (dir_of r))) (same_entered setup events e was.id (rw (only.no_release, only.no_join) refl)).request
-    ∙ ap (λ x. one_if (same_dir d x)) (sym was.dir_is) in
+    ∙ ap (λ r. one_if (same_dir d (dir_of r))) (same_entered setup events e was.0 (rw (only.no_release, only.no_join) refl)).request
+    ∙ ap (λ x. one_if (same_dir d x)) was.2 in
     let were : count_by f (flying (issues_of events)) ≡ count_by f p.before + (one_if (f p.issue) + count_by f p.after) = ap (count_by f) p.were ∙ count_both f p.before (p.issue ∷ p.after) ∙ ap (λ n. count_by f p.before + n) (count_first f p.issue p.after) in
     let are : flying_of fs d ≡ count_by f p.before + count_by f p.after = in_flight fs d ∙ ap (count_by f) p.are ∙ count_both f p.before p.after in
     omega (arith, still_of setup events e d legal, in_flight events d)

@@ -1,87 +1,33 @@
 -- What a Back changes: the one open Issue of its tag is no longer among those that were not requeued.
 use Rattle.std.proofs.Common.{◌≡◌, ◌≤◌, ◌+◌, ◌++◌, ◌==◌, ℕ, zero, suc, List, [], ◌∷◌, length, map, take, drop, set, refl, sym, ◌∙◌, ap, subst, arith, inl, inr, Some, cond, Bool, true, false, eq-eqb, ne_eqb, eqb-true, append-nil}
 use Rattle.std.specs.Prelude.{◌||◌, ◌&&◌, not, slice_get, count_by}
-use Rattle.std.proofs.lemmas.List.{map-append}
+use Rattle.std.proofs.lemmas.List.{length-map, map-append}
 use Rattle.std.proofs.lemmas.List.Sums.{sum_by-append}
 use Rattle.std.proofs.lemmas.List.Folds.{list_any-append}
 use Rattle.std.proofs.lemmas.Bool.{cases_Bool, or_left, or_right, or_parts, and_parts, and_from}
-use Rattle.blk_bio.specs.declared.rule.TraceRule.TheVariants.{TagUsed, AlreadyIssued, NotIssued}
+use Rattle.blk_bio.specs.declared.rule.TraceRule.TheVariants.{AlreadyIssued, NotIssued}
 use Rattle.blk_trace.specs.declared.issued.Outcome.{Outcome}
 use Rattle.blk_trace.specs.declared.issued.Outcome.TheVariants as outcome
 use Rattle.blk_trace.specs.declared.issued.Outcome.TheVariants.{Flying}
 use Rattle.blk_trace.specs.declared.issued.Issued.{Issued}
-use Rattle.blk_trace.specs.Happened.{Happened, Issue, Done, Back}
+use Rattle.blk_trace.specs.Happened.{Happened, Issue, Back}
 use Rattle.blk_trace.specs.Setups.{Setup}
-use Rattle.blk_trace.specs.Events.{round_of, IsOpen, IsUsed, IsOpenBy}
+use Rattle.blk_trace.specs.Events.{round_of, IsOpen, IsOpenBy}
 use Rattle.blk_trace.specs.Kinds.{ends}
-use Rattle.blk_trace.specs.Issues.{end_of, outcome_of, issues_from, issues_of, flies, was_requeued, kept_of}
+use Rattle.blk_trace.specs.Issues.{end_of, issues_from, issues_of, flies, was_requeued, kept_of}
 use Rattle.blk_trace.specs.Legal.{IsLegalTrace}
 use Rattle.blk_trace.specs.Rules.{BreaksNoRule}
 use Rattle.blk_trace.specs.Meaning.{round_and_id, served, issued_ids, rounds_of}
 use Rattle.blk_trace.specs.Waits.{has_id}
 use Rattle.blk_trace.specs.Inside.Issues.{ended_by}
-use Rattle.blk_trace.proofs.Places.{split}
+use Rattle.blk_trace.specs.Inside.Kept.{IsFlyingAt}
 use Rattle.blk_trace.proofs.Words.{only_ends}
-use Rattle.blk_trace.proofs.Issues.{issues_kept, issues_push, issues_ended, issue_at, flies_on, flying_by, flying_is, ends_later, get_map, set_ended, with_outcome}
+use Rattle.blk_trace.proofs.Issues.{issues_ended, flying_is, flying_place, set_ended, with_outcome}
 use Rattle.blk_trace.proofs.Served.{kept_pairs, kept_append, issued_more}
 use Rattle.blk_trace.proofs.Ids.{by_legal, all_back}
-use Rattle.blk_trace.proofs.Seats.{taken_at}
-use Rattle.blk_trace.proofs.TagUses.{by_open}
-use Rattle.blk_trace.proofs.Steady.{steady}
+pub use Rattle.blk_trace.proofs.TagUses.{open_by}
+use Rattle.blk_trace.proofs.Steady.{AreSteady, steady}
 use Rattle.blk_trace.proofs.Counting.{one_if, count-cons, count_push}
-
--- one Issue at most flies under a tag
-FliesOnce : List Issued → Type 0
-FliesOnce xs = (j k : ℕ) (x y : Issued) → slice_get xs j ≡ Some x → slice_get xs k ≡ Some y → x.outcome ≡ Flying → y.outcome ≡ Flying → x.tag ≡ y.tag → j ≡ k
-
-open_used : (setup : Setup) (es : List Happened) (t : ℕ) → IsLegalTrace setup es → IsOpen es t → IsUsed es t
-open_used setup es t legal o =
-    let p = (steady setup es legal).takes t o in
-    let q = taken_at es t p.0 p.1 in
-    record { place = q.place; id = p.0; issued = q.issued; now = q.now }
-
--- what still flies after an end is as it was
-flew : (t : ℕ) (n : Outcome) (i : Issued) → (n ≡ Flying → ⊥) → (ended_by t n i).outcome ≡ Flying → ended_by t n i ≡ i
-flew t n i lands h =
-    elim (cases_Bool (flies i.outcome && (t == i.tag))) [
-      | inl b ↦ absurd (lands (ap (λ c. (cond c (with_outcome i n) i).outcome) (sym b) ∙ h))
-      | inr b ↦ ap (λ c. cond c (with_outcome i n) i) b
-    ]
-
-once_ended : (t : ℕ) (n : Outcome) (xs : List Issued) → (n ≡ Flying → ⊥) → FliesOnce xs → FliesOnce (map (ended_by t n) xs)
-unfolding FliesOnce
-once_ended t n xs lands once j k x y at there fx fy same =
-    let p = get_map (ended_by t n) xs j x at in
-    let q = get_map (ended_by t n) xs k y there in
-    let x_is : p.0 ≡ x = sym (flew t n p.0 lands (ap (λ (i : Issued). i.outcome) p.2 ∙ fx)) ∙ p.2 in
-    let y_is : q.0 ≡ y = sym (flew t n q.0 lands (ap (λ (i : Issued). i.outcome) q.2 ∙ fy)) ∙ q.2 in
-    once j k x y (p.1 ∙ ap Some x_is) (q.1 ∙ ap Some y_is) fx fy same
-
-once_issued : (xs : List Issued) (i : Issued) → ((k : ℕ) (x : Issued) → slice_get xs k ≡ Some x → x.outcome ≡ Flying → x.tag ≡ i.tag → ⊥) → FliesOnce xs → FliesOnce (xs ++ i ∷ [])
-unfolding FliesOnce
-once_issued xs i none once j k x y at there fx fy same =
-    elim (split xs i j x at) [
-      | inl p ↦ elim (split xs i k y there) [
-        | inl q ↦ once j k x y p q fx fy same
-        | inr q ↦ absurd (none j x p fx (same ∙ ap (λ (z : Issued). z.tag) (sym q.1)))
-      ]
-      | inr p ↦ elim (split xs i k y there) [
-        | inl q ↦ absurd (none k y q fy (sym same ∙ ap (λ (z : Issued). z.tag) (sym p.1)))
-        | inr q ↦ omega (arith, p.0, q.0)
-      ]
-    ]
-
-once_step : (setup : Setup) (es : List Happened) (e : Happened) → IsLegalTrace setup es → BreaksNoRule setup es e → FliesOnce (issues_of es) → FliesOnce (issues_of (es ++ e ∷ []))
-once_step setup es (Issue i t) old all ih =
-    subst FliesOnce (sym (issues_push 0 (round_of es) es i t (omega arith)))
-    (once_issued (issues_of es) _ (λ k x at flies same. all TagUsed (open_used setup es t old (subst (IsOpen es) same (by_open es x.tag x.id (flying_by es k x at flies))))) ih)
-once_step setup es (Done t) old all ih = subst FliesOnce (sym (issues_ended 0 t es (Done t) refl refl)) (once_ended t outcome.Done (issues_of es) (λ h. absurd (cc)) ih)
-once_step setup es (Back t) old all ih = subst FliesOnce (sym (issues_ended 0 t es (Back t) refl refl)) (once_ended t outcome.Back (issues_of es) (λ h. absurd (cc)) ih)
-once_step setup es e old all ih = subst FliesOnce (sym (issues_kept 0 es e refl refl)) ih
-
-once : (setup : Setup) (es : List Happened) → IsLegalTrace setup es → FliesOnce (issues_of es)
-unfolding FliesOnce issues_from
-once setup es legal = by_legal setup (λ l. FliesOnce (issues_of l)) (λ j k x y at. absurd (cc)) (λ l e new old all ih. once_step setup l e old all ih) es legal
 
 -- a list at a place, and with another element there
 split_get : {X : Type 0} (xs : List X) (k : ℕ) (x : X) → slice_get xs k ≡ Some x → xs ≡ take k xs ++ x ∷ drop (suc k) xs
@@ -104,13 +50,12 @@ pub record EndsOne (xs ys : List Issued) (id : ℕ) (n : Outcome) : Type 0 where
   pub whole : xs ≡ before ++ issue ∷ after
   pub now : ys ≡ before ++ with_outcome issue n ∷ after
 
-one_of : (t place : ℕ) (n : Outcome) (xs : List Issued) (i : Issued) → slice_get xs place ≡ Some i → i.outcome ≡ Flying → t ≡ i.tag → FliesOnce xs → EndsOne xs (map (ended_by t n) xs) i.id n
-unfolding FliesOnce
-one_of t place n xs i at flying under once =
+one_of : (t place : ℕ) (n : Outcome) (xs : List Issued) (i : Issued) → slice_get xs place ≡ Some i → i.outcome ≡ Flying → t ≡ i.tag → (now : ℕ) → AreSteady xs now → EndsOne xs (map (ended_by t n) xs) i.id n
+one_of t place n xs i at flying under now s =
     let here : (flies i.outcome && (t == i.tag)) ≡ true = and_from (flies i.outcome) (t == i.tag) (ap flies flying) (eq-eqb t i.tag under) in
     let only : (k : ℕ) (j : Issued) → slice_get xs k ≡ Some j → (flies j.outcome && (t == j.tag)) ≡ true → k ≡ place = λ k j there b.
     let both = and_parts (flies j.outcome) (t == j.tag) b in
-    once k place j i there at (flying_is j.outcome both.0) flying (sym (eqb-true t j.tag both.1) ∙ under) in
+    s.once k place j i there at (s.flies k j there (flying_is j.outcome both.0) ∙ sym (s.flies place i at flying)) (sym (eqb-true t j.tag both.1) ∙ under) in
     record {
       before = take place xs;
       after = drop (suc place) xs;
@@ -123,11 +68,10 @@ one_of t place n xs i at flying under once =
 
 pub ends_one : (setup : Setup) (es : List Happened) (e : Happened) (t id : ℕ) → IsLegalTrace setup es → IsOpenBy es t id → ends e ≡ Some t → EndsOne (issues_of es) (issues_of (es ++ e ∷ [])) id (end_of e)
 ends_one setup es e t id legal o end =
-    let p = issue_at 0 es o.place id t o.issued in
-    let later : List Happened = drop (suc o.place) es in
-    let flying : outcome_of t later ≡ Flying = flying_is (outcome_of t later) (flies_on t later (λ j d. o.not_done (suc o.place + j) (omega arith) (ends_later es o.place j t d))) in
+    let p = flying_place es t id o in
+    let f : IsFlyingAt (issues_of es) p.0 t = p.1.0 in
     subst (λ l. EndsOne (issues_of es) l id (end_of e)) (sym (issues_ended 0 t es e end (only_ends e t end).no_issue))
-    (one_of t p.0 (end_of e) (issues_of es) (record { round = p.1.0; id = id; tag = t; outcome = outcome_of t later }) p.1.1 flying refl (once setup es legal))
+    (subst (λ n. EndsOne (issues_of es) (map (ended_by t (end_of e)) (issues_of es)) n (end_of e)) p.1.1 (one_of t p.0 (end_of e) (issues_of es) f.issue f.there f.flies (sym f.under) (round_of es) (steady setup es legal)))
 
 -- one list without an entry of the id of the other
 pub record IsTakenOut (id : ℕ) (xs ys : List (ℕ × ℕ)) : Type 0 where
@@ -167,10 +111,6 @@ pub record LosesIssue (es fs : List Happened) (id : ℕ) : Type 0 where
   pub rounds_are : rounds_of fs ≡ rounds_before ++ rounds_after
   pub even : length rounds_before ≡ length ids_before
 
-map_length : {X Y : Type 0} (f : X → Y) (xs : List X) → length (map f xs) ≡ length xs
-map_length f [] = refl
-map_length f (x ∷ xs) = ap suc (map_length f xs)
-
 requeued_from : (es fs : List Happened) (id : ℕ) → IsTakenOut id (served 0 es) (served 0 fs) → LosesIssue es fs id
 unfolding issued_ids rounds_of
 requeued_from es fs id p =
@@ -184,15 +124,11 @@ requeued_from es fs id p =
       ids_are = ap (map (λ (s : ℕ × ℕ). s.1)) p.left ∙ map-append (λ (s : ℕ × ℕ). s.1) p.before p.after;
       rounds_were = ap (map (λ (s : ℕ × ℕ). s.0)) p.whole ∙ map-append (λ (s : ℕ × ℕ). s.0) p.before ((p.round, id) ∷ p.after);
       rounds_are = ap (map (λ (s : ℕ × ℕ). s.0)) p.left ∙ map-append (λ (s : ℕ × ℕ). s.0) p.before p.after;
-      even = map_length (λ (s : ℕ × ℕ). s.0) p.before ∙ sym (map_length (λ (s : ℕ × ℕ). s.1) p.before);
+      even = length-map p.before (λ (s : ℕ × ℕ). s.0) ∙ sym (length-map p.before (λ (s : ℕ × ℕ). s.1));
     }
 
 pub requeued : (setup : Setup) (es : List Happened) (t id : ℕ) → IsLegalTrace setup es → IsOpenBy es t id → LosesIssue es (es ++ Back t ∷ []) id
 requeued setup es t id legal o = requeued_from es (es ++ Back t ∷ []) id (one_out setup es t id legal o)
-
--- an open tag's Issue
-pub open_by : (es : List Happened) (t : ℕ) (o : IsOpen es t) → IsOpenBy es t o.id
-open_by es t o = record { place = o.place; issued = o.issued; not_done = o.not_done }
 
 -- an id stands once among those that were not requeued
 count_append : (p : ℕ → Bool) (xs ys : List ℕ) → count_by p (xs ++ ys) ≡ count_by p xs + count_by p ys

@@ -1,35 +1,34 @@
 -- The commands of a legal trace, in the rounds of their Issues, are a legal schedule.
-use Rattle.std.proofs.Common.{◌≡◌, ◌<◌, ◌≤◌, ◌+◌, ◌++◌, ◌==◌, ℕ, zero, suc, List, [], ◌∷◌, length, map, get_or, refl, sym, ◌∙◌, ap, subst, arith, inl, inr, Some, None, true, false, ne_eqb, eq-eqb, ltb}
-use Rattle.std.specs.Prelude.{Option, count_by}
+use Rattle.std.proofs.Common.{◌≡◌, ◌≤◌, ◌+◌, ◌++◌, ◌==◌, ℕ, zero, suc, List, [], ◌∷◌, length, map, get_or, refl, sym, ◌∙◌, ap, arith, inl, inr, Some, Bool, cond, true, false, ne_eqb, eq-eqb, eqb-true, ltb}
+use Rattle.std.specs.Prelude.{count_by, filter, not, slice_get}
 use Rattle.std.proofs.lemmas.List.{get_or_append_left, get_or_push, length_push}
-use Rattle.std.proofs.lemmas.Bool.{cases_lt, cases_eq, lt-ltb, le-ltb}
+use Rattle.std.proofs.lemmas.Bool.{cases_Bool, cases_lt, cases_eq, lt-ltb, le-ltb}
 use Rattle.edd_commands.specs.declared.Command.{Command}
 use Rattle.edd_commands.specs.Schedule.{StartsReleased, places_at}
 use Rattle.blk_bio.specs.declared.rule.TraceRule.TheVariants.{Unknown, AlreadyIssued, NotIssued}
-use Rattle.blk_trace.specs.Happened.{Happened, Tick, Issue, Back}
+use Rattle.blk_trace.specs.Happened.{Happened, Issue, Back}
 use Rattle.blk_trace.specs.Setups.{Setup}
-use Rattle.blk_trace.specs.Depths.{depth_in, depth_now}
+use Rattle.blk_trace.specs.Depths.{depth_in}
 use Rattle.blk_trace.specs.Legal.{IsLegalTrace}
 use Rattle.blk_trace.specs.Rules.{BreaksNoRule}
-use Rattle.blk_trace.specs.Events.{is_tick, round_of, round_at, request_of, IsOpen}
-use Rattle.blk_trace.specs.Issues.{issues_from}
+use Rattle.blk_trace.specs.Events.{round_of, round_at, request_of, IsOpen}
+use Rattle.blk_trace.specs.declared.issued.Issued.{Issued}
+use Rattle.blk_trace.specs.Issues.{issues_from, issues_of, was_requeued, kept_of}
 use Rattle.blk_trace.specs.Meaning.{served, issued_ids, release_of, due_of, command_of, commands_of, rounds_of}
 use Rattle.blk_trace.specs.Waits.{Entered, waits_at}
-use Rattle.blk_trace.specs.Inside.Seats.{this_round}
 use Rattle.blk_trace.specs.Laws.{IsScheduled}
-use Rattle.blk_trace.proofs.More.{round_more}
-use Rattle.blk_trace.proofs.Pushing.{shorter_legal, obeys}
+use Rattle.blk_trace.proofs.Pushing.{shorter_legal}
 use Rattle.blk_trace.proofs.Ids.{by_legal, all_back}
-use Rattle.blk_trace.proofs.Depths.{depth_past, depth_now_is}
 use Rattle.blk_trace.proofs.Changes.{capacity_depth}
 use Rattle.blk_trace.proofs.Requeuing.{LosesIssue, requeued, open_by}
 use Rattle.blk_trace.proofs.Requeues.{commands_were, commands_are, map_length}
 use Rattle.blk_trace.proofs.Entering.{release_within}
 use Rattle.blk_trace.proofs.Waiting.{waits_for}
 use Rattle.blk_trace.proofs.Commands.{commands_kept, commands-issued, rounds_kept, rounds-issued}
-use Rattle.blk_trace.proofs.Seats.{taken, cases_option, IsTaken, taken_at}
-use Rattle.blk_trace.proofs.Opening.{tags, tags_tick, tags_more, tags_kept, tag_count, number}
-use Rattle.blk_trace.proofs.Counting.{one_if, count-cons, count_push}
+use Rattle.blk_trace.proofs.Counting.{one_if, count-cons}
+use Rattle.blk_trace.proofs.Issues.{issue_from}
+use Rattle.blk_trace.proofs.Served.{round_list}
+use Rattle.blk_trace.proofs.Steady.{steady}
 
 -- one round for each command, none before its release
 record StartsWell (commands : List Command) (rounds : List ℕ) : Type 0 where
@@ -144,112 +143,78 @@ all_below n (x ∷ xs) h =
           absurd (omega (arith, count-cons (λ y. x == y) x xs, h x b))
     ]
 
-number_few : (o : Option ℕ) → number o ≤ 1
-number_few None = omega arith
-number_few (Some x) = omega arith
+-- the tags of a round's Issues, in their order
+pub tags_at : ℕ → List Issued → List ℕ
+tags_at round xs = map (λ i. i.tag) (filter (λ i. i.round == round) xs)
 
--- a round has no more tags than its depth
-pub few_tags : (setup : Setup) (es : List Happened) → IsLegalTrace setup es → length (tags es) ≤ depth_now setup es
-few_tags setup es legal =
-    let once : (u : ℕ) → count_by (λ x. u == x) (tags es) ≤ 1 = λ u. omega (arith, tag_count setup es u legal, number_few (taken es u)) in
-    let none : (u : ℕ) → depth_now setup es ≤ u → count_by (λ x. u == x) (tags es) ≡ 0 = λ u l. elim (cases_option (taken es u)) [
-      | inl n ↦ tag_count setup es u legal ∙ ap number n
-      | inr p ↦
-          let at : IsTaken es u p.0 = taken_at es u p.0 p.1 in
-          let there : depth_in setup es (round_at es at.place) ≡ depth_now setup es = ap (depth_in setup es) at.now ∙ sym (depth_now_is setup es) in
-          absurd (omega (arith, l, there, legal.tag_range at.place p.0 u at.issued))
-    ] in
-    omega (arith, few_below (depth_now setup es) (tags es) once, all_below (depth_now setup es) (tags es) none)
+first_tag : (round : ℕ) (i : Issued) (xs : List Issued) (b : Bool) → (i.round == round) ≡ b → tags_at round (i ∷ xs) ≡ cond b (i.tag ∷ tags_at round xs) (tags_at round xs)
+unfolding tags_at
+first_tag round i xs true h = ap (λ c. map (λ (x : Issued). x.tag) (cond c (i ∷ filter (λ (x : Issued). x.round == round) xs) (filter (λ (x : Issued). x.round == round) xs))) h
+first_tag round i xs false h = ap (λ c. map (λ (x : Issued). x.tag) (cond c (i ∷ filter (λ (x : Issued). x.round == round) xs) (filter (λ (x : Issued). x.round == round) xs))) h
 
--- how many commands a round has
-record FillsWell (setup : Setup) (es : List Happened) : Type 0 where
-  now : places_at (rounds_of es) (round_of es) ≤ length (tags es)
-  later : (x : ℕ) → round_of es < x → places_at (rounds_of es) x ≡ 0
-  within : (x : ℕ) → places_at (rounds_of es) x ≤ depth_in setup es x
-
--- also by the depths with one more event
-within_still : (setup : Setup) (es : List Happened) (e : Happened) → FillsWell setup es → (x : ℕ) → places_at (rounds_of es) x ≤ depth_in setup (es ++ e ∷ []) x
-within_still setup es e old x =
-    elim (cases_lt (round_of es) x) [
-      | inl b ↦ omega (arith, old.later x b)
-      | inr b ↦ omega (arith, old.within x, depth_past setup es e x b)
+-- as many as Issues are in the round
+pub as_many : (round : ℕ) (xs : List Issued) → places_at (map (λ (i : Issued). i.round) xs) round ≡ length (tags_at round xs)
+unfolding places_at tags_at
+as_many round [] = refl
+as_many round (i ∷ xs) =
+    elim (cases_Bool (i.round == round)) [
+      | inl b ↦ omega (arith, count-cons (λ y. y == round) i.round (map (λ (x : Issued). x.round) xs), ap one_if b, ap length (first_tag round i xs true b), as_many round xs)
+      | inr b ↦ omega (arith, count-cons (λ y. y == round) i.round (map (λ (x : Issued). x.round) xs), ap one_if b, ap length (first_tag round i xs false b), as_many round xs)
     ]
 
-fills_kept : (setup : Setup) (es : List Happened) (e : Happened) → rounds_of (es ++ e ∷ []) ≡ rounds_of es → round_of (es ++ e ∷ []) ≡ round_of es → tags (es ++ e ∷ []) ≡ tags es → FillsWell setup es → FillsWell setup (es ++ e ∷ [])
-fills_kept setup es e a b c old = record {
-  now = rw (a, b, c) old.now;
-  later = λ x l. rw a (old.later x (omega arith));
-  within = λ x. rw a (within_still setup es e old x);
-}
+none_at : (round u : ℕ) (xs : List Issued) → ((k : ℕ) (i : Issued) → slice_get xs k ≡ Some i → i.round ≡ round → i.tag ≡ u → ⊥) → count_by (λ t. u == t) (tags_at round xs) ≡ 0
+unfolding tags_at
+none_at round u [] h = refl
+none_at round u (i ∷ xs) h =
+    let rest : count_by (λ t. u == t) (tags_at round xs) ≡ 0 = none_at round u xs (λ k x at. h (suc k) x at) in
+    elim (cases_Bool (i.round == round)) [
+      | inl b ↦
+          let other : one_if (u == i.tag) ≡ 0 = ap one_if (ne_eqb u i.tag (λ e. h 0 i refl (eqb-true i.round round b) (sym e))) in
+          omega (arith, ap (count_by (λ t. u == t)) (first_tag round i xs true b), count-cons (λ t. u == t) i.tag (tags_at round xs))
+      | inr b ↦ ap (count_by (λ t. u == t)) (first_tag round i xs false b) ∙ rest
+    ]
 
-round_kept : (es : List Happened) (e : Happened) → is_tick e ≡ false → round_of (es ++ e ∷ []) ≡ round_of es
-round_kept es e h = round_more es e ∙ rw h (omega arith)
+one_at : (round u : ℕ) (xs : List Issued) → ((j k : ℕ) (x y : Issued) → slice_get xs j ≡ Some x → slice_get xs k ≡ Some y → x.round ≡ y.round → x.tag ≡ y.tag → j ≡ k) → count_by (λ t. u == t) (tags_at round xs) ≤ 1
+unfolding tags_at
+one_at round u [] once = omega arith
+one_at round u (i ∷ xs) once =
+    let rest : count_by (λ t. u == t) (tags_at round xs) ≤ 1 = one_at round u xs (λ j k x y at there a b. omega (arith, once (suc j) (suc k) x y at there a b)) in
+    elim (cases_Bool (i.round == round)) [
+      | inl b ↦
+          let first : count_by (λ t. u == t) (tags_at round (i ∷ xs)) ≡ one_if (u == i.tag) + count_by (λ t. u == t) (tags_at round xs) = ap (count_by (λ t. u == t)) (first_tag round i xs true b) ∙ count-cons (λ t. u == t) i.tag (tags_at round xs) in
+          elim (cases_Bool (u == i.tag)) [
+            | inl c ↦
+                let none : count_by (λ t. u == t) (tags_at round xs) ≡ 0 = none_at round u xs (λ k x at r t. absurd (omega (arith, once 0 (suc k) i x refl at (eqb-true i.round round b ∙ sym r) (sym (eqb-true u i.tag c) ∙ sym t)))) in
+                omega (arith, first, none, ap one_if c)
+            | inr c ↦ omega (arith, first, rest, ap one_if c)
+          ]
+      | inr b ↦ omega (arith, rest, ap (count_by (λ t. u == t)) (first_tag round i xs false b))
+    ]
 
-places_push : (rs : List ℕ) (r x : ℕ) → places_at (rs ++ r ∷ []) x ≡ places_at rs x + one_if (r == x)
+-- no more than the round's depth
+pub few_tags : (setup : Setup) (es : List Happened) (round : ℕ) → IsLegalTrace setup es → length (tags_at round (issues_of es)) ≤ depth_in setup es round
+few_tags setup es round legal =
+    let ts : List ℕ = tags_at round (issues_of es) in
+    let once : (u : ℕ) → count_by (λ x. u == x) ts ≤ 1 = λ u. one_at round u (issues_of es) (steady setup es legal).once in
+    let none : (u : ℕ) → depth_in setup es round ≤ u → count_by (λ x. u == x) ts ≡ 0 = λ u l. none_at round u (issues_of es) (λ k i at r t.
+    let f = issue_from 0 es k i at in
+    let there : round_at es f.place ≡ round = omega (arith, f.now, r) in
+    absurd (omega (arith, l, t, ap (depth_in setup es) there, legal.tag_range f.place i.id i.tag f.issued))) in
+    omega (arith, few_below (depth_in setup es round) ts once, all_below (depth_in setup es round) ts none)
+
+-- nor has it more commands
+fewer : (round : ℕ) (xs : List Issued) → places_at (map (λ (i : Issued). i.round) (kept_of xs)) round ≤ places_at (map (λ (i : Issued). i.round) xs) round
 unfolding places_at
-places_push rs r x = count_push (λ y. y == x) rs r
-
-fills_issued : (setup : Setup) (es : List Happened) (i t : ℕ) → IsLegalTrace setup (es ++ Issue i t ∷ []) → FillsWell setup es → FillsWell setup (es ++ Issue i t ∷ [])
-fills_issued setup es i t new old =
-    let fs : List Happened = es ++ Issue i t ∷ [] in
-    let rounds : (x : ℕ) → places_at (rounds_of fs) x ≡ places_at (rounds_of es) x + one_if (round_of es == x) = λ x. ap (λ l. places_at l x) (rounds-issued es i t) ∙ places_push (rounds_of es) (round_of es) x in
-    let round : round_of fs ≡ round_of es = round_kept es (Issue i t) refl in
-    let long : length (tags fs) ≡ length (tags es) + 1 = ap length (tags_more es (Issue i t) refl) ∙ length_push (tags es) t in
-    let one : one_if (round_of es == round_of es) ≡ 1 = ap one_if (eq-eqb (round_of es) (round_of es) refl) in
-    let full : places_at (rounds_of fs) (round_of es) ≤ length (tags fs) = omega (arith, rounds (round_of es), old.now) in
-    record {
-      now = rw round full;
-      later = λ x l.
-          let other : one_if (round_of es == x) ≡ 0 = ap one_if (ne_eqb (round_of es) x (λ e. absurd (omega arith))) in
-          omega (arith, rounds x, old.later x (omega arith));
-      within = λ x. elim (cases_eq (round_of es) x) [
-        | inl e ↦ subst (λ y. places_at (rounds_of fs) y ≤ depth_in setup fs y) e (omega (arith, full, few_tags setup fs new, depth_now_is setup fs, ap (depth_in setup fs) round))
-        | inr e ↦
-            let other : one_if (round_of es == x) ≡ 0 = ap one_if (ne_eqb (round_of es) x e) in
-            omega (arith, rounds x, within_still setup es (Issue i t) old x)
-      ];
-    }
-
--- without a round
-fewer_places : (rs ss : List ℕ) (r x : ℕ) → places_at (rs ++ ss) x ≤ places_at (rs ++ r ∷ ss) x
-unfolding places_at
-fewer_places [] ss r x = omega (arith, count-cons (λ y. y == x) r ss)
-fewer_places (q ∷ rs) ss r x = omega (arith, count-cons (λ y. y == x) q (rs ++ ss), count-cons (λ y. y == x) q (rs ++ r ∷ ss), fewer_places rs ss r x)
-
-fills_requeued : (setup : Setup) (es : List Happened) (t : ℕ) → IsLegalTrace setup (es ++ Back t ∷ []) → FillsWell setup es → FillsWell setup (es ++ Back t ∷ [])
-fills_requeued setup es t new old =
-    let fs : List Happened = es ++ Back t ∷ [] in
-    let legal = shorter_legal setup es (Back t) new in
-    let o : IsOpen es t = obeys setup es (Back t) new NotIssued in
-    let p : LosesIssue es fs o.id = requeued setup es t o.id legal (open_by es t o) in
-    let fewer : (x : ℕ) → places_at (rounds_of fs) x ≤ places_at (rounds_of es) x = λ x. rw (p.rounds_are, p.rounds_were) (fewer_places p.rounds_before p.rounds_after p.round x) in
-    let round : round_of fs ≡ round_of es = round_kept es (Back t) refl in
-    let same : tags fs ≡ tags es = tags_kept es (Back t) refl refl in
-    record {
-      now = rw (round, same) (omega (arith, old.now, fewer (round_of es)));
-      later = λ x l. omega (arith, fewer x, old.later x (omega arith));
-      within = λ x. omega (arith, fewer x, within_still setup es (Back t) old x);
-    }
-
-fills_step : (setup : Setup) (es : List Happened) (e : Happened) → IsLegalTrace setup (es ++ e ∷ []) → FillsWell setup es → FillsWell setup (es ++ e ∷ [])
-fills_step setup es Tick new old =
-    let up : round_of (es ++ Tick ∷ []) ≡ round_of es + 1 = round_more es Tick in
-    let no_tags : length (tags (es ++ Tick ∷ [])) ≡ 0 = ap length (tags_tick es) in
-    record {
-      now = rw (rounds_kept es Tick refl refl, up, no_tags) (omega (arith, old.later (round_of es + 1) (omega arith)));
-      later = λ x l. rw (rounds_kept es Tick refl refl) (old.later x (omega arith));
-      within = λ x. rw (rounds_kept es Tick refl refl) (within_still setup es Tick old x);
-    }
-fills_step setup es (Issue i t) new old = fills_issued setup es i t new old
-fills_step setup es (Back t) new old = fills_requeued setup es t new old
-fills_step setup es e new old = fills_kept setup es e (rounds_kept es e refl refl) (round_kept es e refl) (tags_kept es e refl refl) old
-
-fills : (setup : Setup) (es : List Happened) → IsLegalTrace setup es → FillsWell setup es
-unfolding rounds_of served issues_from places_at round_of tags this_round
-fills setup es legal = by_legal setup (FillsWell setup) (record { now = omega arith; later = λ x l. refl; within = λ x. omega arith }) (λ l e new old all ih. fills_step setup l e new ih) es legal
+fewer round [] = omega arith
+fewer round (i ∷ xs) = by (was_requeued i.outcome) refl (fewer round xs)
+  where
+    by : (b : Bool) → was_requeued i.outcome ≡ b → count_by (λ y. y == round) (map (λ (x : Issued). x.round) (kept_of xs)) ≤ count_by (λ y. y == round) (map (λ (x : Issued). x.round) xs) → count_by (λ y. y == round) (map (λ (x : Issued). x.round) (cond (not (was_requeued i.outcome)) (i ∷ kept_of xs) (kept_of xs))) ≤ count_by (λ y. y == round) (i.round ∷ map (λ (x : Issued). x.round) xs)
+    by true h rest = rw h (omega (arith, rest, count-cons (λ y. y == round) i.round (map (λ (x : Issued). x.round) xs)))
+    by false h rest = rw h (omega (arith, rest, count-cons (λ y. y == round) i.round (map (λ (x : Issued). x.round) xs), count-cons (λ y. y == round) i.round (map (λ (x : Issued). x.round) (kept_of xs))))
 
 pub legal-schedule : (setup : Setup) (events : List Happened) → IsLegalTrace setup events → IsScheduled setup events
 legal-schedule setup events legal =
     let s : StartsWell (commands_of setup events) (rounds_of events) = starts setup events legal in
-    let f : FillsWell setup events = fills setup events legal in
-    record { one_each = s.one_each; released = s.released; within_depth = λ x. omega (arith, f.within x, capacity_depth setup events x) }
+    let within : (x : ℕ) → places_at (rounds_of events) x ≤ depth_in setup events x = λ x.
+    omega (arith, ap (λ l. places_at l x) (round_list events), fewer x (issues_of events), as_many x (issues_of events), few_tags setup events x legal) in
+    record { one_each = s.one_each; released = s.released; within_depth = λ x. omega (arith, within x, capacity_depth setup events x) }

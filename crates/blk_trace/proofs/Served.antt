@@ -96,9 +96,12 @@ commands_are setup es =
     ∙ sym (map_map (λ (i : Issued). i.id) (command_of setup es) (kept_of (issues_of es)))
     ∙ ap (map (command_of setup es)) (sym (map_map round_and_id (λ (s : ℕ × ℕ). s.1) (kept_of (issues_of es))))
 
-pub rounds_are : (es : List Happened) → filter_map round_in (issues_of es) ≡ rounds_of es
+pub round_list : (es : List Happened) → rounds_of es ≡ map (λ (i : Issued). i.round) (kept_of (issues_of es))
 unfolding rounds_of served
-rounds_are es = kept_map (λ (i : Issued). i.round) (issues_of es) ∙ sym (map_map round_and_id (λ (s : ℕ × ℕ). s.0) (kept_of (issues_of es)))
+round_list es = map_map round_and_id (λ (s : ℕ × ℕ). s.0) (kept_of (issues_of es))
+
+pub rounds_are : (es : List Happened) → filter_map round_in (issues_of es) ≡ rounds_of es
+rounds_are es = kept_map (λ (i : Issued). i.round) (issues_of es) ∙ sym (round_list es)
 
 pub in_command : (setup : Setup) (es : List Happened) (i : Issued) (b : Bool) → was_requeued i.outcome ≡ b → command_in setup es i ≡ cond b None (Some (command_of setup es i.id))
 in_command setup es i b h = ap (λ b. cond b None (Some (command_of setup es i.id))) h

@@ -1,14 +1,12 @@
 -- Laws of the few words that read an event's kind.
-use Rattle.std.proofs.Common.{◌≡◌, ◌++◌, ◌==◌, ℕ, List, [], ◌∷◌, length, refl, sym, ◌∙◌, ap, subst, eqb-true, Option, Some, None, option_map, cond, false, inl, inr, true}
+use Rattle.std.proofs.Common.{◌≡◌, ◌++◌, ◌==◌, ℕ, List, [], ◌∷◌, length, refl, ◌∙◌, ap, subst, Option, Some, None, option_map, false, inl, inr, true}
 use Rattle.std.specs.Prelude.{◌⊎◌, IfSome}
-use Rattle.std.specs.Option.{option_map_or, option_and_then}
-use Rattle.std.proofs.lemmas.Bool.{cases_Bool}
+use Rattle.std.specs.Option.{option_map_or}
 use Rattle.blk_bio.specs.Bios.{Bio}
 use Rattle.blk_trace.specs.Happened.{Happened, Tick, Release, Issue, Done, Back, Depth}
 use Rattle.blk_trace.specs.Kinds.{releases, joins, issues, ends, sets_depth, is_tick}
 use Rattle.blk_trace.specs.Events.{EndsAt}
 use Rattle.blk_trace.specs.Kinds.{is_done_of}
-use Rattle.blk_trace.specs.Inside.Seats.{issued_by, issue_tag}
 use Rattle.blk_trace.proofs.Places.{split, keep}
 
 -- what ends an Issue does nothing else
@@ -41,38 +39,14 @@ depth_is (Depth d) depth h = let same : d ≡ depth = cc in ap (λ n. Depth n) s
 depth_is e depth h = absurd (cc)
 
 -- what an event that issues or ends nothing does to a tag
-pub issued_by_none : (t : ℕ) (e : Happened) → issues e ≡ None → issued_by t e ≡ None
-issued_by_none t e h = ap (option_and_then (λ p. cond (p.1 == t) (Some p.0) None)) h
-
-issued_from : (t : ℕ) (x : Happened) (id : ℕ) (o : Option (ℕ × ℕ)) → issues x ≡ o → option_and_then (λ p. cond (p.1 == t) (Some p.0) None) o ≡ Some id → x ≡ Issue id t
-issued_from t x id None is h = absurd (cc)
-issued_from t x id (Some p) is h =
-    elim (cases_Bool (p.1 == t)) [
-      | inl b ↦
-          let e : Some p.0 ≡ Some id = ap (λ c. cond c (Some p.0) None) (sym b) ∙ h in
-          let same : p.0 ≡ id = cc in
-          let tag : p.1 ≡ t = eqb-true p.1 t b in
-          issue_is x p is ∙ ap (λ (n : ℕ). Issue n p.1) same ∙ ap (λ (n : ℕ). Issue id n) tag
-      | inr b ↦ absurd (let e : ◌≡◌ {A = Option ℕ} None (Some id) = ap (λ c. cond c (Some p.0) None) (sym b) ∙ h in cc)
-    ]
-
-pub issued_by_is : (t : ℕ) (x : Happened) (id : ℕ) → issued_by t x ≡ Some id → x ≡ Issue id t
-issued_by_is t x id h = issued_from t x id (issues x) refl h
-
 pub done_by_none : (t : ℕ) (e : Happened) → ends e ≡ None → is_done_of t e ≡ false
 done_by_none t e h = ap (λ x. option_map_or (λ u. u == t) x false) h
 
 pub done_by : (t : ℕ) (e : Happened) (u : ℕ) → ends e ≡ Some u → is_done_of t e ≡ (u == t)
 done_by t e u h = ap (λ x. option_map_or (λ v. v == t) x false) h
 
-pub no_tag : (e : Happened) → issues e ≡ None → issue_tag e ≡ None
-no_tag e h = ap (option_map (λ p. p.1)) h
-
 pub issues_not : (e : Happened) → issues e ≡ None → (i t : ℕ) → e ≡ Issue i t → ⊥
 issues_not e none i t h = let some : issues e ≡ Some (i, t) = ap issues h in absurd (cc)
-
-pub ends_not : (e : Happened) → ends e ≡ None → (t : ℕ) → ends e ≡ Some t → ⊥
-ends_not e none t h = absurd (cc)
 
 -- of a value what holds of each that it may be
 pub if_some : {X : Type 0} (o : Option X) (P : X → Type 0) → ((x : X) → o ≡ Some x → P x) → IfSome o P

@@ -7,7 +7,6 @@ mod known;
 pub mod laws;
 mod rule;
 mod setup;
-mod tags;
 mod trace;
 
 pub use blk_bio::TraceRule;

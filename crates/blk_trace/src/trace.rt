@@ -18,7 +18,6 @@ use crate::issued::Issued;
 use crate::known::{Entry, Known, Stage};
 use crate::rule::PushFault;
 use crate::setup::Setup;
-use crate::tags::TagUse;
 use blk_bio::{BioId, Request};
 use blk_ids::{ById, IdSet};
 use std::alloc::{AllocError, Allocator, Global};
@@ -57,8 +56,8 @@ pub struct Trace<A: Allocator = Global> {
     known: ById<Known, A>,
     /// The ids of the bios that entered.
     ids: IdSet<A>,
-    /// How each tag stands in the current round.
-    tags: Vec<TagUse, A>,
+    /// The place among the Issues of the last one under each tag.
+    tags: Vec<Option<usize>, A>,
     /// Tags from this one on had no Issue in the current round.
     unused_from: usize,
     /// The current round.
@@ -96,7 +95,7 @@ impl<A: Allocator + Clone> Trace<A> {
         let ids = IdSet::new(alloc.clone()?)?;
         let depth = setup.depth();
         let mut tags = Vec::new(alloc);
-        tags.resize(depth as usize, TagUse::Free)?;
+        tags.resize(depth as usize, None)?;
         Ok(Trace {
             setup,
             events,

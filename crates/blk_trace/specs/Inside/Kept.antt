@@ -1,5 +1,5 @@
 -- What a trace keeps beside its events, what each part says of them, and the room that was made.
-use Rattle.std.specs.Prelude.{ℕ, ◌≡◌, ◌≤◌, ◌+◌, ◌==◌, ◌&&◌, Bool, true, false, cond, List, length, Option, Some, None, option_map, slice_get}
+use Rattle.std.specs.Prelude.{ℕ, ◌≡◌, ◌≤◌, ◌+◌, ◌==◌, ◌&&◌, Bool, true, false, cond, List, length, Option, Some, None, option_map, map, slice_get}
 use Rattle.std.specs.List.{list_any}
 use Rattle.std.specs.Option.{option_map_or}
 use Rattle.blk_bio.specs.Bios.{Bio}
@@ -9,13 +9,11 @@ use Rattle.blk_trace.specs.declared.known.Entry.{Entry}
 use Rattle.blk_trace.specs.declared.known.Stage.{Stage}
 use Rattle.blk_trace.specs.declared.known.Stage.TheVariants.{Waits, Gone, Requeued}
 use Rattle.blk_trace.specs.declared.known.Known.{Known}
-use Rattle.blk_trace.specs.declared.tags.TagUse.{TagUse}
-use Rattle.blk_trace.specs.declared.tags.TagUse.TheVariants.{Free, Open, Ended}
 use Rattle.blk_trace.specs.declared.trace.Prepared.{Prepared}
 use Rattle.blk_trace.specs.declared.trace.Prepared.TheVariants.{Nothing, AnIssue, Bios}
 use Rattle.blk_trace.specs.Happened.{Happened}
 use Rattle.blk_trace.specs.Setups.{Setup, IsSetup}
-use Rattle.blk_trace.specs.Events.{request_of, round_of, open_count, entered, IsOpen, IsUsed, join_up}
+use Rattle.blk_trace.specs.Events.{request_of, round_of, open_count, entered, IsUsed, join_up}
 use Rattle.blk_trace.specs.Depths.{depth_in, depth_now}
 use Rattle.blk_trace.specs.Legal.{IsLegalTrace}
 use Rattle.blk_trace.specs.declared.issued.Outcome.TheVariants.{Flying}
@@ -81,24 +79,27 @@ pub record IsFlyingAt (issues : List Issued) (place tag : ℕ) : Type 0 where
   pub under : issue.tag ≡ tag
   pub flies : issue.outcome ≡ Flying
 
--- how a tag stands: not issued in this round, issued and open, or issued and ended
-abbrev pub IsTagUse : List Happened → ℕ → TagUse → Type 0
-IsTagUse events tag Free = (IsUsed events tag → ⊥) × (IsOpen events tag → ⊥)
-IsTagUse events tag (Open place) = IsUsed events tag × IsOpen events tag × IsFlyingAt (issues_of events) place tag
-IsTagUse events tag Ended = IsUsed events tag × (IsOpen events tag → ⊥)
+-- the tags of the Issues, in their order
+abbrev pub tags_of : List Issued → List ℕ
+tags_of issues = map (λ i. i.tag) issues
 
--- the tag of each Issue in flight says at which place that stands
-abbrev pub ArePlaced : List Issued → List TagUse → Type 0
-ArePlaced issues tags = (k : ℕ) (i : Issued) → slice_get issues k ≡ Some i → i.outcome ≡ Flying → slice_get tags i.tag ≡ Some (Open k)
+-- of these tags the last that is this one stands at the place; where there is no place, none is this one
+abbrev pub IsLast : List ℕ → ℕ → Option ℕ → Type 0
+IsLast tags tag None = (k : ℕ) → slice_get tags k ≡ Some tag → ⊥
+IsLast tags tag (Some place) = (slice_get tags place ≡ Some tag) × ((k : ℕ) → slice_get tags k ≡ Some tag → k ≤ place)
 
--- the tags from the bound on are free, and the one below it isn't
-pub record LeavesFree (bound : ℕ) (tags : List TagUse) : Type 0 where
-  pub within : bound ≤ length tags
-  pub free : (tag : ℕ) (u : TagUse) → bound ≤ tag → slice_get tags tag ≡ Some u → u ≡ Free
-  pub used : (tag : ℕ) → bound ≡ tag + 1 → slice_get tags tag ≡ Some Free → ⊥
+-- each tag has the place of the last Issue under it
+abbrev pub AreLast : List Issued → List (Option ℕ) → Type 0
+AreLast issues places = (tag : ℕ) (place : Option ℕ) → slice_get places tag ≡ Some place → IsLast (tags_of issues) tag place
+
+-- no tag from the bound on was issued in this round, and the one below it was
+pub record IsUnusedFrom (events : List Happened) (depth bound : ℕ) : Type 0 where
+  pub within : bound ≤ depth
+  pub unused : (tag : ℕ) → bound ≤ tag → IsUsed events tag → ⊥
+  pub used : (tag : ℕ) → bound ≡ tag + 1 → IsUsed events tag
 
 -- what is kept is what the events say
-pub record IsKeptTrace (setup : Setup) (events : List Happened) (issued : List Issued) (round opened : ℕ) (known : ℕ → Option Known) (ids : BioId → Bool) (tags : List TagUse) : Type 0 where
+pub record IsKeptTrace (setup : Setup) (events : List Happened) (issued : List Issued) (round opened : ℕ) (known : ℕ → Option Known) (ids : BioId → Bool) (tags : List (Option ℕ)) : Type 0 where
   pub ranges : IsSetup setup
   pub legal : IsLegalTrace setup events
   pub issued_are : issued ≡ issues_of events
@@ -107,8 +108,7 @@ pub record IsKeptTrace (setup : Setup) (events : List Happened) (issued : List I
   pub known_are : (id : ℕ) → known id ≡ known_of setup events id
   pub requests_are : (id : ℕ) → has_id (released_ids events) id ≡ true → IsRequest (request_of events id)
   pub ids_are : (id : BioId) → ids id ≡ has_bio_id (entered events) id
-  pub placed : ArePlaced issued tags
-  pub tags_are : (tag : ℕ) (u : TagUse) → slice_get tags tag ≡ Some u → IsTagUse events tag u
+  pub tags_are : AreLast issued tags
   pub each_tag : length tags ≡ setup.depth
 
 -- the depth of the round that is on, and that of the next one as things stand

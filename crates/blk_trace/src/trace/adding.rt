@@ -18,7 +18,6 @@ ghost use Rattle.blk_trace.specs.Inside.Kept.{at_stage, IsFlyingAt, has_named, h
 use crate::event::Event;
 use crate::issued::{Issued, Outcome};
 use crate::known::{Entry, Known, Stage};
-use crate::tags::{TagUse, free_below, past};
 use crate::trace::{Prepared, Trace};
 use blk_bio::{Bio, Request};
 use blk_ids::{ById, IdSet};
@@ -47,7 +46,8 @@ impl<A: Allocator + Clone> Trace<A> {
         }
     }
 
-    /// Adds a Tick: every tag is free in the round that begins, and the last depth that was set is in force.
+    /// Adds a Tick: no tag is used in the round that begins, and the last depth that was set is in force. It writes no tag: the
+    /// last Issue under each is of a round before.
     fn add_tick(&mut self)
         requires unbroken { BreaksNoRule self.old.setup self.old.events Tick }
         requires prepared { IsPreparedFor self.old.prepared Tick }
@@ -56,7 +56,6 @@ impl<A: Allocator + Clone> Trace<A> {
     {
         self.round += 1;
         self.depth = self.next_depth;
-        free_below(&mut self.tags, self.unused_from);
         self.unused_from = 0;
         append(&mut self.events, Event::Tick);
         self.prepared = Prepared::Nothing;
@@ -120,7 +119,7 @@ impl<A: Allocator + Clone> Trace<A> {
                 outcome,
             },
         );
-        self.tags[tag as usize] = TagUse::Open(place);
+        self.tags[tag as usize] = Some(place);
         self.unused_from = past(self.unused_from, tag);
         self.open += 1;
         append(&mut self.events, Event::Issue { id, tag });
@@ -137,7 +136,6 @@ impl<A: Allocator + Clone> Trace<A> {
         let issue = self.issued[place];
         let outcome = Outcome::Done;
         self.issued[place] = Issued { outcome, ..issue };
-        self.tags[tag as usize] = TagUse::Ended;
         self.open -= 1;
         append(&mut self.events, Event::Done { tag });
         self.prepared = Prepared::Nothing;
@@ -150,11 +148,10 @@ impl<A: Allocator + Clone> Trace<A> {
     {
         // brings the prover the trace's invariant
         let _ = &self.round;
-        match self.tag_use(tag) {
-            TagUse::Open(place) => place,
-            TagUse::Free => unreachable!(),
-            TagUse::Ended => unreachable!(),
-        }
+        let Some(place) = self.tags[tag as usize] else {
+            unreachable!()
+        };
+        place
     }
 
     /// Adds a Back: the tag's Issue is no longer open, and its request waits again.
@@ -168,7 +165,6 @@ impl<A: Allocator + Clone> Trace<A> {
         let outcome = Outcome::Back;
         self.issued[place] = Issued { outcome, ..issue };
         moved(&mut self.known, issue.id, Stage::Requeued);
-        self.tags[tag as usize] = TagUse::Ended;
         self.open -= 1;
         append(&mut self.events, Event::Back { tag });
         self.prepared = Prepared::Nothing;
@@ -220,4 +216,14 @@ fn insert_ids<A: Allocator + Clone>(ids: &mut IdSet<A>, bios: &[Bio])
         let id = bio.id();
         ids.insert(id.submitter, id.serial);
     }
+}
+
+/// The least bound that is no lower and past a tag.
+fn past(bound: usize, tag: u16) -> usize
+    ensures higher { bound ≤ result }
+    ensures past { tag < result }
+    ensures least { (n : ℕ) → bound ≤ n → tag < n → result ≤ n }
+{
+    let tag = tag as usize;
+    if tag < bound { bound } else { tag + 1 }
 }

@@ -7,11 +7,11 @@ ghost use Rattle.blk_trace.specs.Kinds.{ends};
 ghost use Rattle.blk_trace.specs.Legal.{IsLegalTrace};
 ghost use Rattle.blk_trace.specs.Rules.{IsFirstBroken, BreaksNoRule};
 ghost use Rattle.blk_trace.specs.Events.{entered, open_count, request_of, IsReleased, AreRequeued, IsOpen, IsUsed, AreOnce, IsFirstRepeatedBio};
-ghost use Rattle.blk_trace.specs.Inside.Kept.{known_of, IsTagUse, has_bio_id};
+ghost use Rattle.blk_trace.specs.Inside.Kept.{known_of, has_bio_id};
 
 use crate::event::Event;
+use crate::issued::Outcome;
 use crate::known::{Known, Stage};
-use crate::tags::TagUse;
 use crate::trace::{MAX_EVENTS, Trace};
 use blk_bio::{Bio, BioId, Request, TraceRule};
 use std::alloc::Allocator;
@@ -182,23 +182,14 @@ impl<A: Allocator + Clone> Trace<A> {
         self.setup.depth()
     }
 
-    /// How a tag below the depth stands.
-    pub(crate) fn tag_use(&self, tag: u16) -> TagUse
-        requires { tag < self.now.setup.depth }
-        ensures { IsTagUse self.now.events tag result }
-    {
-        self.tags[tag as usize]
-    }
-
     /// Whether a tag below the depth has an Issue in this round.
     fn is_used(&self, tag: u16) -> bool
         requires { tag < self.now.setup.depth }
         ensures { IsTrue result ↔ IsUsed self.now.events tag }
     {
-        match self.tag_use(tag) {
-            TagUse::Free => false,
-            TagUse::Open(_) => true,
-            TagUse::Ended => true,
+        match self.tags[tag as usize] {
+            Some(place) => self.issued[place].round == self.round,
+            None => false,
         }
     }
 
@@ -207,10 +198,13 @@ impl<A: Allocator + Clone> Trace<A> {
         requires { tag < self.now.setup.depth }
         ensures { IsTrue result ↔ IsOpen self.now.events tag }
     {
-        match self.tag_use(tag) {
-            TagUse::Free => false,
-            TagUse::Open(_) => true,
-            TagUse::Ended => false,
+        let Some(place) = self.tags[tag as usize] else {
+            return false;
+        };
+        match self.issued[place].outcome {
+            Outcome::Flying => true,
+            Outcome::Done => false,
+            Outcome::Back => false,
         }
     }
 

@@ -1,4 +1,4 @@
-use Rattle.std.proofs.Common.{◌≡◌, ◌<◌, ◌+◌, ◌++◌, ◌==◌, ◌∙◌, ℕ, List, [], ◌∷◌, Some, cond, get_or, length, length-append, ap, sym, arith, subst, refl}
+use Rattle.std.proofs.Common.{◌≡◌, ◌<◌, ◌+◌, ◌++◌, ◌==◌, ◌∙◌, ℕ, List, [], ◌∷◌, Some, cond, length, length-append, ap, sym, arith, subst, refl}
 use Rattle.std.specs.Prelude.{IsSome, option_map, slice_get}
 use Rattle.blk_ids.specs.ById as by_id
 use Rattle.blk_trace.specs.declared.known.Stage.TheVariants.{Requeued}
@@ -6,10 +6,9 @@ use Rattle.blk_trace.proofs.Ids.{released_first}
 use Rattle.blk_trace.proofs.Knowing.{known_there}
 use Rattle.blk_trace.proofs.Requeues.{open_issued}
 use Rattle.std.proofs.lemmas.List.{length-set}
-use Rattle.std.proofs.lemmas.Option.{slice_get_within, slice_get-get_or}
+use Rattle.std.proofs.lemmas.Option.{slice_get_within}
 use Rattle.blk_bio.specs.declared.rule.TraceRule.TheVariants as rule
 use Rattle.blk_trace.specs.declared.issued.Issued.{Issued}
-use Rattle.blk_trace.specs.declared.issued.Outcome.TheVariants as outcome
 use Rattle.blk_trace.specs.Happened.{Happened, Back}
 use Rattle.blk_trace.specs.Events.{IsOpen, IsOpenBy}
 use Rattle.blk_trace.specs.Legal.{IsLegalTrace}
@@ -19,9 +18,10 @@ use Rattle.blk_trace.specs.Traces.{Traced}
 use Rattle.blk_trace.specs.Inside.Kept.{IsFlyingAt, at_stage}
 use Rattle.blk_trace.proofs.Pushing.{push_legal}
 use Rattle.blk_trace.proofs.Issues.{flying_by}
-use Rattle.blk_trace.proofs.TagUses.{free_ended}
+use Rattle.blk_trace.proofs.TagUses.{unused_kept}
 use Rattle.blk_trace.proofs.Opening.{open_positive}
-use Rattle.blk_trace.proofs.Capacities.{tag_below, depths_kept}
+use Rattle.blk_trace.proofs.Capacities.{depths_kept}
+use Rattle.blk_trace.proofs.Last.{read_same}
 use Rattle.blk_trace.proofs.Keeping.{IsEndedAt, ended_at, kept_back, room_after_end}
 use Rattle.blk_trace.proofs.trace.Trace.add_back.Goals as goal
 
@@ -60,22 +60,11 @@ moved-requires g c =
     let place = c.open_place-place.result in
     let f : IsFlyingAt s.issued.items place c.args.tag = subst (λ (l : List Issued). IsFlyingAt l place c.args.tag) (sym k.issued_are) (subst (λ (v : Traced). IsFlyingAt (issues_of v.events) place c.args.tag) (sym c.self.view_is) c.open_place-place.ensures) in
     let i : Issued = c.index-issue.result.now in
-    let both : Some (get_or s.issued.items place i) ≡ Some f.issue = sym (slice_get-get_or s.issued.items place i (slice_get_within s.issued.items place f.issue f.there)) ∙ f.there in
-    let one : get_or s.issued.items place i ≡ f.issue = cc in
-    let same : i ≡ f.issue = c.index-issue.ensures ∙ one in
+    let same : i ≡ f.issue = read_same s.issued.items place i f.issue f.there c.index-issue.ensures in
     let it : IsFlyingAt s.issued.items place c.args.tag = record { issue = i; there = f.there ∙ ap Some (sym same); under = ap (λ (x : Issued). x.tag) same ∙ f.under; flies = ap (λ (x : Issued). x.outcome) same ∙ f.flies } in
     let by : IsOpenBy es c.args.tag i.id = subst (λ (n : ℕ). IsOpenBy es n i.id) it.under (flying_by es place i (ap (λ l. slice_get l place) (sym k.issued_are) ∙ it.there) it.flies) in
     let known = k.known_are i.id ∙ known_there s.setup es i.id (released_first s.setup es i.id k.legal (open_issued es c.args.tag i.id by)) in
     subst IsSome (sym known) refl
-
-pub index_mut-requires-2 : goal.index_mut-requires-2
-index_mut-requires-2 g c =
-    let s = c.self.inside in
-    let es : List Happened = c.self.inside.events.items in
-    let k = c.self.invariant.0 in
-    let all : BreaksNoRule s.setup es (Back c.args.tag) = subst (λ (v : Traced). BreaksNoRule v.setup v.events (Back c.args.tag)) (sym c.self.view_is) c.requires.unbroken in
-    let o : IsOpen es c.args.tag = all rule.NotIssued in
-    omega (arith, tag_below s.setup es o.place o.id c.args.tag k.legal o.issued, k.each_tag, s.tags.ok.0)
 
 pub overflow_sub-self : goal.overflow_sub-self
 overflow_sub-self g c =
@@ -105,18 +94,16 @@ invariant_of-self g c =
     let place = c.open_place-place.result in
     let f : IsFlyingAt s.issued.items place c.args.tag = subst (λ (l : List Issued). IsFlyingAt l place c.args.tag) (sym k.issued_are) (subst (λ (v : Traced). IsFlyingAt (issues_of v.events) place c.args.tag) (sym c.self.view_is) c.open_place-place.ensures) in
     let i : Issued = c.index-issue.result.now in
-    let both : Some (get_or s.issued.items place i) ≡ Some f.issue = sym (slice_get-get_or s.issued.items place i (slice_get_within s.issued.items place f.issue f.there)) ∙ f.there in
-    let one : get_or s.issued.items place i ≡ f.issue = cc in
-    let same : i ≡ f.issue = c.index-issue.ensures ∙ one in
+    let same : i ≡ f.issue = read_same s.issued.items place i f.issue f.there c.index-issue.ensures in
     let it : IsFlyingAt s.issued.items place c.args.tag = record { issue = i; there = f.there ∙ ap Some (sym same); under = ap (λ (x : Issued). x.tag) same ∙ f.under; flies = ap (λ (x : Issued). x.outcome) same ∙ f.flies } in
     let by : IsOpenBy es c.args.tag i.id = subst (λ (n : ℕ). IsOpenBy es n i.id) it.under (flying_by es place i (ap (λ l. slice_get l place) (sym k.issued_are) ∙ it.there) it.flies) in
     let known = k.known_are i.id ∙ known_there s.setup es i.id (released_first s.setup es i.id k.legal (open_issued es c.args.tag i.id by)) in
-    let x : IsEndedAt s.setup es (Back c.args.tag) c.args.tag place i s.issued.items s.tags.items = ended_at s.setup es (Back c.args.tag) c.args.tag place s.issued.items _ _ _ _ s.tags.items k o refl refl (λ (e : outcome.Back ≡ outcome.Flying). cc e) it in
+    let x : IsEndedAt es (Back c.args.tag) place i s.issued.items = ended_at s.setup es (Back c.args.tag) c.args.tag place s.issued.items k.legal k.issued_are refl refl it in
     let hz : c.append.new.list.items ≡ es ++ (Back c.args.tag) ∷ [] = c.append.ensures.items in
     let n : length c.append.new.list.items ≡ length s.events.items + 1 = ap length c.append.ensures.items ∙ length-append s.events.items (Back c.args.tag ∷ []) in
     let some : 0 < s.«open» = omega (arith, open_positive s.setup es c.args.tag k.legal o, k.open_is) in
     let hk = λ (q : ℕ). c.moved.ensures.stage q ∙ ap (λ o. cond (i.id == q) (option_map (at_stage Requeued) o) (by_id.kept_at s.known q)) known in
-    (kept_back s.setup es _ c.args.tag place i.id i s.issued.items _ _ (by_id.kept_at s.known) _ _ s.tags.items k all by hz x hk, room_after_end s.prepared _ _ _ _ _ _ _ _ _ _ _ _ some c.self.invariant.1 n c.append.ensures.room (length-set s.issued.items place _) (omega arith), depths_kept s.setup es _ (Back c.args.tag) s.depth s.next_depth c.self.invariant.2 refl refl hz, free_ended s.setup es s.tags.items s.unused_from k.legal k.each_tag k.tags_are c.self.invariant.3 c.args.tag o)
+    (kept_back s.setup es _ c.args.tag place i.id i s.issued.items _ _ (by_id.kept_at s.known) _ _ s.tags.items k all by hz x hk, room_after_end s.prepared _ _ _ _ _ _ _ _ _ _ _ _ some c.self.invariant.1 n c.append.ensures.room (length-set s.issued.items place _) (omega arith), depths_kept s.setup es _ (Back c.args.tag) s.depth s.next_depth c.self.invariant.2 refl refl hz, unused_kept es _ (Back c.args.tag) s.setup.depth s.unused_from refl refl hz c.self.invariant.3)
 
 pub returns-clause-legal : goal.returns-clause-legal
 returns-clause-legal g c = push_legal _ _ _ (subst (λ (v : Traced). IsLegalTrace v.setup v.events) c.self.view_is c.self.invariant.0.legal) c.requires.unbroken tt

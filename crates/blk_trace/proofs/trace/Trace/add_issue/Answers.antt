@@ -11,8 +11,7 @@ use Rattle.blk_trace.specs.Legal.{IsLegalTrace}
 use Rattle.blk_trace.specs.Rules.{BreaksNoRule}
 use Rattle.blk_trace.proofs.Pushing.{push_legal}
 use Rattle.blk_trace.specs.Traces.{Traced, IsPreparedFor}
-use Rattle.blk_trace.specs.declared.tags.TagUse.TheVariants.{Free, Open}
-use Rattle.blk_trace.proofs.TagUses.{free_set}
+use Rattle.blk_trace.proofs.TagUses.{unused_issued}
 use Rattle.blk_trace.specs.declared.known.Stage.TheVariants.{Gone}
 use Rattle.blk_trace.specs.Waits.{Entered, entered_at, waits_at}
 use Rattle.blk_trace.specs.Inside.Kept.{at_stage}
@@ -61,7 +60,7 @@ invariant_of-self g c =
     let gone = λ (q : ℕ). c.moved.ensures.stage q ∙ ap (λ o. cond (c.args.id == q) (option_map (at_stage Gone) o) (by_id.kept_at s.known q)) known in
     let hc : length c.append.new.list.items ≡ length s.issued.items + 1 = ap length c.append.ensures.items ∙ length-append s.issued.items _ in
     let place = c.len-place.result in
-    (kept_issue _ es _ c.args.id c.args.tag place w _ _ _ _ (by_id.kept_at s.known) _ _ s.tags.items k all hz low waits (omega (arith, c.len-place.ensures, s.issued.ok.0)) hd gone, room_after_issue s.prepared c.args.id c.args.tag _ _ _ _ _ _ _ _ _ _ _ _ ready room n hc c.append-2.ensures.room c.append.ensures.room, depths_kept s.setup es _ (Issue c.args.id c.args.tag) s.depth s.next_depth c.self.invariant.2 refl refl hz, free_set s.unused_from c.past-self-inside.result c.args.tag (Open place) s.tags.items c.past-self-inside.ensures.higher c.past-self-inside.ensures.past c.past-self-inside.ensures.least (λ (e : Open place ≡ Free). cc e) (c.past-self-inside.ensures.least (length s.tags.items) c.self.invariant.3.within low) c.self.invariant.3)
+    (kept_issue _ es _ c.args.id c.args.tag place w _ _ _ _ (by_id.kept_at s.known) _ _ s.tags.items k all hz waits (omega (arith, c.len-place.ensures, s.issued.ok.0)) hd gone, room_after_issue s.prepared c.args.id c.args.tag _ _ _ _ _ _ _ _ _ _ _ _ ready room n hc c.append-2.ensures.room c.append.ensures.room, depths_kept s.setup es _ (Issue c.args.id c.args.tag) s.depth s.next_depth c.self.invariant.2 refl refl hz, unused_issued es _ c.args.id c.args.tag s.setup.depth s.unused_from c.past-self-inside.result c.past-self-inside.ensures.higher c.past-self-inside.ensures.past c.past-self-inside.ensures.least (omega (arith, low, k.each_tag)) hz c.self.invariant.3)
 
 pub returns-clause-legal : goal.returns-clause-legal
 returns-clause-legal g c = push_legal _ _ _ (subst (λ (v : Traced). IsLegalTrace v.setup v.events) c.self.view_is c.self.invariant.0.legal) c.requires.unbroken tt

@@ -16,6 +16,7 @@ use Rattle.blk_trace.proofs.Joining.{fits_to}
 use Rattle.blk_trace.proofs.Knowing.{known_there}
 use Rattle.blk_trace.proofs.Waiting.{request_there}
 use Rattle.blk_trace.proofs.Capacities.{depths_kept}
+use Rattle.blk_trace.proofs.TagUses.{unused_kept}
 use Rattle.blk_trace.proofs.Keeping.{entered_request, kept_join, room_after_entry, join_room}
 use Rattle.blk_trace.proofs.trace.Trace.add_join.Goals as goal
 
@@ -56,7 +57,7 @@ invariant_of-self g c =
     let hz : c.append.new.list.items ≡ es ++ (Join c.args.id c.args.request) ∷ [] = c.append.ensures.items in
     let n : length c.append.new.list.items ≡ length s.events.items + 1 = ap length c.append.ensures.items ∙ length-append s.events.items (Join c.args.id c.args.request ∷ []) in
     let j = c.in-Some-joined.ensures.some w old.1 (entered_request s.setup es c.args.id w k.requests_are there) in
-    (kept_join _ es _ c.args.id c.args.request w c.in-Some-joined.entry _ _ _ (by_id.kept_at s.known) _ (has_named (id_set.set_has s.ids)) _ _ k all hz c.bios.ensures.is_request there j.1 c.set.ensures.value (λ b. c.insert_ids.ensures.ids b ∙ ap (λ (l : List Bio). has_named (id_set.set_has s.ids) b || has_bio_id l b) c.bios.ensures.bios), room_after_entry s.prepared _ _ _ _ _ _ _ _ _ _ _ (join_room s.prepared c.args.id c.args.request ready).0 room n c.append.ensures.room, depths_kept s.setup es _ (Join c.args.id c.args.request) s.depth s.next_depth c.self.invariant.2 refl refl hz, c.self.invariant.3)
+    (kept_join _ es _ c.args.id c.args.request w c.in-Some-joined.entry _ _ _ (by_id.kept_at s.known) _ (has_named (id_set.set_has s.ids)) _ _ k all hz c.bios.ensures.is_request there j.1 c.set.ensures.value (λ b. c.insert_ids.ensures.ids b ∙ ap (λ (l : List Bio). has_named (id_set.set_has s.ids) b || has_bio_id l b) c.bios.ensures.bios), room_after_entry s.prepared _ _ _ _ _ _ _ _ _ _ _ (join_room s.prepared c.args.id c.args.request ready).0 room n c.append.ensures.room, depths_kept s.setup es _ (Join c.args.id c.args.request) s.depth s.next_depth c.self.invariant.2 refl refl hz, unused_kept es _ (Join c.args.id c.args.request) s.setup.depth s.unused_from refl refl hz c.self.invariant.3)
 
 pub returns-clause-legal : goal.returns-clause-legal
 returns-clause-legal g c = push_legal _ _ _ (subst (λ (v : Traced). IsLegalTrace v.setup v.events) c.self.view_is c.self.invariant.0.legal) c.requires.unbroken c.bios.ensures.is_request

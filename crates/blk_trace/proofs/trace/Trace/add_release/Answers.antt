@@ -16,6 +16,7 @@ use Rattle.blk_trace.specs.Waits.{summary}
 use Rattle.blk_trace.specs.Inside.Kept.{has_named, has_bio_id}
 use Rattle.blk_trace.proofs.More.{rounds_within}
 use Rattle.blk_trace.proofs.Capacities.{depths_kept}
+use Rattle.blk_trace.proofs.TagUses.{unused_kept}
 use Rattle.blk_trace.proofs.Keeping.{kept_release, room_after_entry, entry_room}
 use Rattle.blk_trace.proofs.trace.Trace.add_release.Goals as goal
 
@@ -46,7 +47,7 @@ invariant_of-self g c =
     let hz : c.append.new.list.items ≡ es ++ (Release c.args.id c.args.request) ∷ [] = c.append.ensures.items in
     let n : length c.append.new.list.items ≡ length s.events.items + 1 = ap length c.append.ensures.items ∙ length-append s.events.items (Release c.args.id c.args.request ∷ []) in
     let hs : c.entered-entry.result ≡ summary record { release = s.round; due = s.round + expire_of s.setup (dir_of c.args.request); bios = c.args.request } = c.entered-entry.ensures ∙ ap (λ (e : ℕ). summary record { release = s.round; due = s.round + e; bios = c.args.request }) (c.expire-expire.ensures.value ∙ ap (expire_of s.setup) c.dir.ensures) in
-    (kept_release _ es _ c.args.id c.args.request c.entered-entry.result _ _ _ (by_id.kept_at s.known) _ (has_named (id_set.set_has s.ids)) _ _ k all hz c.bios.ensures.is_request hs c.insert.ensures (λ b. c.insert_ids.ensures.ids b ∙ ap (λ (l : List Bio). has_named (id_set.set_has s.ids) b || has_bio_id l b) c.bios.ensures.bios), room_after_entry s.prepared _ _ _ _ _ _ _ _ _ _ _ (entry_room s.prepared c.args.id c.args.request ready).0 room n c.append.ensures.room, depths_kept s.setup es _ (Release c.args.id c.args.request) s.depth s.next_depth c.self.invariant.2 refl refl hz, c.self.invariant.3)
+    (kept_release _ es _ c.args.id c.args.request c.entered-entry.result _ _ _ (by_id.kept_at s.known) _ (has_named (id_set.set_has s.ids)) _ _ k all hz c.bios.ensures.is_request hs c.insert.ensures (λ b. c.insert_ids.ensures.ids b ∙ ap (λ (l : List Bio). has_named (id_set.set_has s.ids) b || has_bio_id l b) c.bios.ensures.bios), room_after_entry s.prepared _ _ _ _ _ _ _ _ _ _ _ (entry_room s.prepared c.args.id c.args.request ready).0 room n c.append.ensures.room, depths_kept s.setup es _ (Release c.args.id c.args.request) s.depth s.next_depth c.self.invariant.2 refl refl hz, unused_kept es _ (Release c.args.id c.args.request) s.setup.depth s.unused_from refl refl hz c.self.invariant.3)
 
 pub returns-clause-legal : goal.returns-clause-legal
 returns-clause-legal g c = push_legal _ _ _ (subst (λ (v : Traced). IsLegalTrace v.setup v.events) c.self.view_is c.self.invariant.0.legal) c.requires.unbroken c.bios.ensures.is_request

@@ -1,8 +1,5 @@
 use Rattle.std.proofs.Common.{◌≡◌, ◌+◌, ◌++◌, ◌∙◌, List, [], ◌∷◌, length, length-append, ap, sym, arith, subst}
-use Rattle.std.specs.Prelude.{replicate}
-use Rattle.blk_trace.specs.Inside.Kept.{LeavesFree}
-use Rattle.blk_trace.proofs.TagUses.{free_replicate}
-use Rattle.blk_trace.specs.declared.tags.TagUse.TheVariants.{Free}
+use Rattle.blk_trace.proofs.TagUses.{unused_ticked}
 use Rattle.blk_trace.specs.Happened.{Happened, Tick}
 use Rattle.blk_trace.specs.Legal.{IsLegalTrace}
 use Rattle.blk_trace.specs.Rules.{BreaksNoRule}
@@ -27,8 +24,7 @@ invariant_of-self g c =
     let ready : IsPreparedFor s.prepared Tick = subst (λ (v : Traced). IsPreparedFor v.prepared Tick) (sym c.self.view_is) c.requires.prepared in
     let hz : c.append.new.list.items ≡ es ++ Tick ∷ [] = c.append.ensures.items in
     let n : length c.append.new.list.items ≡ length s.events.items + 1 = ap length c.append.ensures.items ∙ length-append s.events.items (Tick ∷ []) in
-    let ht : c.free_below.new.tags.items ≡ replicate (length s.tags.items) Free = c.free_below.ensures in
-    (kept_tick _ es _ _ _ _ _ _ s.tags.items _ k all hz ht, room_after_tick s.prepared _ _ _ _ _ _ _ _ _ ready room n c.append.ensures.room, depths_ticked s.setup es _ s.depth s.next_depth c.self.invariant.2 hz, subst (LeavesFree 0) (sym ht) (free_replicate (length s.tags.items)))
+    (kept_tick _ es _ _ _ _ _ _ s.tags.items k all hz, room_after_tick s.prepared _ _ _ _ _ _ _ _ _ ready room n c.append.ensures.room, depths_ticked s.setup es _ s.depth s.next_depth c.self.invariant.2 hz, unused_ticked es _ s.setup.depth hz)
 
 pub returns-clause-legal : goal.returns-clause-legal
 returns-clause-legal g c = push_legal _ _ _ (subst (λ (v : Traced). IsLegalTrace v.setup v.events) c.self.view_is c.self.invariant.0.legal) c.requires.unbroken tt

@@ -1,7 +1,8 @@
-use Rattle.std.proofs.Common.{arith, refl}
+use Rattle.std.proofs.Common.{List, arith, refl, sym, subst}
 use Rattle.blk_ids.specs.ById as by_id
 use Rattle.blk_ids.specs.IdSet as id_set
-use Rattle.blk_trace.specs.Inside.Kept.{has_named}
+use Rattle.blk_trace.specs.Happened.{Happened}
+use Rattle.blk_trace.specs.Inside.Kept.{IsUnusedFrom, has_named}
 use Rattle.blk_trace.proofs.Capacities.{depths_same}
 use Rattle.blk_trace.proofs.Keeping.{kept_same}
 use Rattle.blk_trace.proofs.trace.Trace.make_room_to_issue.Goals as goal
@@ -17,5 +18,5 @@ invariant_of-self-2 g c =
         for_bios = omega arith;
       },
       depths_same s.setup _ _ s.depth s.next_depth c.self.invariant.2 (c.in_ok-reserve.ensures.items),
-      c.self.invariant.3,
+      subst (λ (l : List Happened). IsUnusedFrom l s.setup.depth s.unused_from) (sym c.in_ok-reserve.ensures.items) c.self.invariant.3,
     )
