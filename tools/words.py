@@ -191,9 +191,9 @@ def held_by_cases():
 
 # The names that are no variant's, by the fault that has each: `Stalled` says what became of a load, where the others name a broken rule.
 OWN_NAMES = {"LoadFault::Stalled": "stalled"}
-# The names that no command shows as a fault's: each of the first four is told in other words, and the program's own setups have all hardware queues
-# that its steps name.
-UNSEEN = {"Memory", "Read", "Write", "Words", "NoQueue", "Queues"}
+# The names that no command shows as a fault's: each of the first four is told in other words, the program's own setups have all hardware queues
+# that its steps name, and a load's plugs hold bios of their submitters alone.
+UNSEEN = {"Memory", "Read", "Write", "Words", "NoQueue", "Queues", "Foreign"}
 # A method that answers a fault's name, or what is told of it; in it the list of the fault's variants; and one of these, with a name of its own,
 # the fault that it is told by, and what else stands there: in a list of names what gives the name of the fault that is handed on.
 NAME = re.compile(r"fn (?:name\(self\)|told\(&self\)) .*?\n    }\n", re.S)

@@ -12,10 +12,10 @@ use crate::words::MatchedOptions;
 use blk_schedulers::grid::grid_given;
 use blk_schedulers::options::{position_names, scheduler_names, tried_names};
 use blk_schedulers::plans::plans_tried;
-use blk_schedulers::{Given, GridFault, Plan, Sched};
+use blk_schedulers::{Given, Plan, Sched};
 use clap::ArgMatches;
 use clap::error::ErrorKind;
-use std::alloc::Global;
+use std::alloc::{AllocError, Global};
 
 /// Why there is no grid.
 #[derive(Clone, Copy, Debug, PartialEq, Eq)]
@@ -32,9 +32,9 @@ fn grid_by<G: Given>(alloc: Global, options: &G) -> Result<Vec<Sched>, NoGrid>
     ensures none { IfErr result (λ n. n ≡ NoGrid.Nothing → grid_given (G.given options.now) ≡ None) }
 {
     match grid_given(alloc, options) {
-        Ok(grid) => Ok(grid),
-        Err(GridFault::List(_)) => Err(NoGrid::Nothing),
-        Err(GridFault::Memory) => Err(NoGrid::Memory),
+        Ok(Some(grid)) => Ok(grid),
+        Ok(None) => Err(NoGrid::Nothing),
+        Err(AllocError) => Err(NoGrid::Memory),
     }
 }
 

@@ -3,6 +3,7 @@
 ghost use Rattle.std.specs.Prelude.{◌≡◌, ◌≢◌, ◌<◌, ◌≤◌, ◌+◌, [], ◌↔◌, IsTrue, OnOk, OnErr, IfOk, IfErr, IfSome, IfNone, List, Some, length, slice_get};
 ghost use Rattle.blk_bio.specs.Bios.{Bio as Transfer};
 ghost use Rattle.blk_queues.specs.Plugs.{bios_plugged};
+ghost use Rattle.blk_layer.specs.Names.{flush_told};
 ghost use Rattle.blk_layer.specs.Seats.{AreOwn};
 ghost use Rattle.blk_layer.specs.Submitting.{Flushes, FlushesInto, QueueHasRoom, IsFirstForeign, IsLeft, IsFirstRoomReason, queue_of, IsMoveAnswer, IsMoveAllAnswer};
 ghost use Rattle.blk_layer.specs.Inside.Submitting.{LosesFirst, GetsFirst, bios_of_both};
@@ -13,6 +14,7 @@ use blk_bio::{Bio, BioId, MAX_QUEUES, MAX_SOFT_DEPTH, Request};
 use blk_core::{Core, CoreFault};
 use blk_queues::{MAX_BIOS, Map, Plug, SoftQueue};
 use blk_sched::Scheduler;
+use edd_commands::{Fault, Told, told};
 use std::alloc::Allocator;
 use std::sync::Wait;
 use thiserror::Error;
@@ -31,18 +33,24 @@ pub struct Flushed {
 
 /// Why a flush ended before the plug was empty, in the order in which the reasons are looked for.
 #[derive(Clone, Copy, Debug, PartialEq, Eq, Error)]
-#[error("{:?}", self)]
+#[error("{}", self.name())]
 pub enum FlushReason {
     /// The first bio, in the order of their sectors, of another submitter.
-    #[error("Foreign")]
     Foreign(BioId),
     /// The first bio, in the order of their sectors, whose id was accepted before or stands earlier in the request.
-    #[error("Repeated")]
     Repeated(BioId),
     /// The software queue has no room for the request.
     SoftFull,
     /// Memory ran out.
     Memory,
+}
+
+impl Fault for FlushReason {
+    ghost told = { flush_told };
+
+    fn told(&self) -> Told {
+        told!(self: FlushReason { Foreign(_), Repeated(_), SoftFull, Memory => Memory })
+    }
 }
 
 /// A flush that ended before the plug was empty.

@@ -19,6 +19,7 @@ use Rattle.blk_load.specs.declared.fault.LoadFault.{LoadFault}
 use Rattle.blk_load.specs.declared.fault.LoadFault.TheVariants as fault
 use Rattle.blk_layer.specs.declared.closing.CloseFault.TheVariants as close
 use Rattle.blk_layer.specs.declared.serving.WorkFault.TheVariants as work
+use Rattle.blk_layer.specs.declared.submitting.FlushReason.TheVariants as flush
 use Rattle.edd_commands.specs.declared.faults.Told.{Told}
 use Rattle.blk_schedulers.specs.Faults.{IsLoadFault, load_faults}
 
@@ -90,7 +91,10 @@ listed fault.Memory = (0, refl)
 listed (fault.Work work.TraceFull) = (1, refl)
 listed (fault.Work work.Memory) = (0, refl)
 listed (fault.Work (work.Repeated id)) = (2, refl)
-listed fault.Repeated = (2, refl)
+listed (fault.Flush (flush.Foreign id)) = (7, refl)
+listed (fault.Flush (flush.Repeated id)) = (2, refl)
+listed (fault.Flush flush.SoftFull) = (8, refl)
+listed (fault.Flush flush.Memory) = (0, refl)
 listed fault.Stalled = (3, refl)
 listed (fault.Close close.SeatMissing) = (4, refl)
 listed (fault.Close close.Memory) = (0, refl)

@@ -3,7 +3,7 @@
 ghost use Rattle.std.specs.Prelude.{◌≡◌};
 ghost use Rattle.blk_load.specs.Inside.Faults.{load_told, fault_rank, IsFirstOfTwo};
 
-use blk_layer::{CloseFault, WorkFault};
+use blk_layer::{CloseFault, FlushReason, WorkFault};
 use edd_commands::{Fault, Told, told};
 use thiserror::Error;
 
@@ -16,8 +16,8 @@ pub enum LoadFault {
     Memory,
     /// A worker's work ended early.
     Work(WorkFault),
-    /// The id of a bio was used before, or is another submitter's, where it was flushed.
-    Repeated,
+    /// A flush was refused, for another reason than that the software queue was full.
+    Flush(FlushReason),
     /// A submitter used up its flushes, or a worker its passes.
     Stalled,
     /// The layer is not closed.
@@ -35,7 +35,7 @@ impl Fault for LoadFault {
         told!(self: LoadFault {
             Memory => Memory,
             Work(fault) by fault,
-            Repeated,
+            Flush(reason) by reason,
             Stalled as "stalled",
             Close(fault) by fault,
             Differs,
@@ -52,9 +52,10 @@ impl LoadFault {
         match self {
             LoadFault::Memory
             | LoadFault::Work(WorkFault::Memory)
+            | LoadFault::Flush(FlushReason::Memory)
             | LoadFault::Close(CloseFault::Memory) => 0,
             LoadFault::Work(WorkFault::TraceFull) => 1,
-            LoadFault::Work(WorkFault::Repeated(_)) | LoadFault::Repeated => 2,
+            LoadFault::Work(WorkFault::Repeated(_)) | LoadFault::Flush(_) => 2,
             LoadFault::Stalled => 3,
             LoadFault::Close(CloseFault::SeatMissing) => 4,
             LoadFault::Differs => 5,

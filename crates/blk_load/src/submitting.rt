@@ -114,14 +114,11 @@ fn flush<R: Wait, S: Scheduler<A = Global>, L: Named>(
 {
     match site.layer.flush(rt, seat, plug) {
         Ok(_) => Ok(()),
-        Err(fault) => match fault.why {
-            FlushReason::SoftFull => {
-                rest();
-                Ok(())
-            }
-            FlushReason::Memory => Err(LoadFault::Memory),
-            FlushReason::Foreign(_) | FlushReason::Repeated(_) => Err(LoadFault::Repeated),
-        },
+        Err(fault) if fault.why == FlushReason::SoftFull => {
+            rest();
+            Ok(())
+        }
+        Err(fault) => Err(LoadFault::Flush(fault.why)),
     }
 }
 

@@ -9,14 +9,14 @@ use blk_cli::Failure;
 use blk_core::{BackFault, CoreFault, DepthFault, IssueFault, TickFault};
 use blk_deadline::DeadlineFault;
 use blk_kyber::KyberFault;
-use blk_layer::{CloseFault, WorkFault};
+use blk_layer::{CloseFault, FlushReason, WorkFault};
 use blk_load::LoadFault;
 use blk_queues::{MapFault, PlugFault};
 use blk_recorders::{LineFault, LineReason};
 use blk_records::{TextFault, TextReason};
 use blk_runs::RunFault;
 use blk_sched::JoinRefusal;
-use blk_schedulers::{GridFault, ListFault, SchedFault, SchedKind, Unsettled};
+use blk_schedulers::{ListFault, SchedFault, SchedKind, Unsettled};
 use blk_sim::{Overflow, SimFault, SimReason};
 use blk_trace::{PushFault, SetupFault, TraceFault};
 use edd_check::{CheckFault, OnTimeFault};
@@ -228,7 +228,7 @@ fn of_the_program(rt: HostRuntime) {
     let loads = [
         LoadFault::Memory,
         LoadFault::Work(WorkFault::TraceFull),
-        LoadFault::Repeated,
+        LoadFault::Flush(FlushReason::SoftFull),
         LoadFault::Stalled,
         LoadFault::Close(CloseFault::SeatMissing),
         LoadFault::Differs,
@@ -309,8 +309,6 @@ fn of_arguments(rt: HostRuntime) {
     let numbers = ListFault::Numbers(SchedKind::Kyber, 0);
     assert!(rt; print_variants(heap, &[ListFault::Scheds]));
     assert!(rt; prints(heap, &numbers, "Numbers"));
-    assert!(rt; print_variants(heap, &[GridFault::Memory]));
-    assert!(rt; prints(heap, &GridFault::List(numbers), "Numbers"));
     assert!(rt; prints(heap, &Refusal::Lists(numbers), "Numbers"));
     assert!(rt; print_variants(heap, &REFUSALS));
 }

@@ -14,6 +14,8 @@ load_faults =
     ∷ (codes "SeatMissing", beside.Nothing)
     ∷ (codes "Differs", beside.Nothing)
     ∷ (codes "Unserved", beside.Nothing)
+    ∷ (codes "Foreign", beside.Nothing)
+    ∷ (codes "SoftFull", beside.Nothing)
     ∷ []
 
 -- what is told is one of these

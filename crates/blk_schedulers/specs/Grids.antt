@@ -4,8 +4,6 @@ use Rattle.std.specs.List.{flat_map, range_with_len}
 use Rattle.blk_schedulers.specs.Given.{GivenOptions}
 use Rattle.blk_schedulers.specs.Lists.{tried_given, numbers_at, list_fault}
 use Rattle.blk_schedulers.specs.Rows.{row_for, sched_place, tried_kinds}
-use Rattle.blk_schedulers.specs.declared.grid.GridFault.{GridFault}
-use Rattle.blk_schedulers.specs.declared.grid.GridFault.TheVariants as fault
 use Rattle.blk_schedulers.specs.declared.lists.ListFault.{ListFault}
 use Rattle.blk_schedulers.specs.declared.rows.SchedKind.{SchedKind}
 use Rattle.blk_schedulers.specs.declared.sched.Sched.{Sched}
@@ -45,8 +43,3 @@ grid_unless (Some f) grid = None
 
 abbrev pub grid_given : GivenOptions → Option (List Sched)
 grid_given o = grid_unless (list_fault o) (option_map (grid_rows o) (tried_given o))
-
--- why there is none: the first option that is given no list; or memory ran out, where each is given one
-abbrev pub IsGridFault : GivenOptions → GridFault → Type 0
-IsGridFault o (fault.List f) = list_fault o ≡ Some f
-IsGridFault o fault.Memory = list_fault o ≡ None

@@ -1,7 +1,8 @@
 //! The settings under which a script is tried, and what is asked of the trial.
 
-ghost use Rattle.std.specs.Prelude.{◌≡◌, ◌<◌, ◌++◌, Some, IfOk, IfErr, OnOk, map};
-ghost use Rattle.blk_schedulers.specs.Grids.{with_value, with_values, rows_of_kind, grid_rows, grid_given, IsGridFault};
+ghost use Rattle.std.specs.Prelude.{◌≡◌, ◌<◌, ◌++◌, None, Some, IfOk, IfSome, IfNone, OnOk, OnErr, map};
+ghost use Rattle.blk_schedulers.specs.Grids.{with_value, with_values, rows_of_kind, grid_rows, grid_given};
+ghost use Rattle.blk_schedulers.specs.Lists.{list_fault};
 
 use crate::given::Given;
 use crate::lists::{ListFault, Tried, numbers_at, tried_given};
@@ -9,7 +10,6 @@ use crate::rows::{SchedKind, tried_kinds};
 use crate::sched::Sched;
 use crate::setting::MAX_SETTINGS;
 use std::alloc::{AllocError, Global};
-use thiserror::Error;
 
 /// What the rows are ordered by first.
 #[derive(Clone, Copy, Debug, PartialEq, Eq)]
@@ -18,17 +18,6 @@ pub enum RankBy {
     Misses,
     /// By how much later the latest command was than it had to be.
     Lateness,
-}
-
-/// Why there is no grid, in the order in which the reasons are looked for.
-#[derive(Clone, Copy, Debug, PartialEq, Eq, Error)]
-#[error("{:?}", self)]
-pub enum GridFault {
-    /// The first option that is given no list.
-    #[error(transparent)]
-    List(ListFault),
-    /// Memory ran out.
-    Memory,
 }
 
 /// What is asked of a trial.
@@ -120,19 +109,18 @@ fn grid_rows<G: Given>(alloc: Global, options: &G, tried: Tried) -> Result<Vec<S
     Ok(all)
 }
 
-/// The schedulers that the options list, each with its settings, in the order of trials.
-pub fn grid_given<G: Given>(alloc: Global, options: &G) -> Result<Vec<Sched>, GridFault>
-    ensures grid { IfOk result (λ all. grid_given (G.given options.now) ≡ Some all.items) }
-    ensures fault { IfErr result (IsGridFault (G.given options.now)) }
+/// The schedulers that the options list, each with its settings, in the order of trials; None where an option is given no list.
+pub fn grid_given<G: Given>(alloc: Global, options: &G) -> Result<Option<Vec<Sched>>, AllocError>
+    ensures grid { IfOk result (λ o. IfSome o (λ all. grid_given (G.given options.now) ≡ Some all.items)) }
+    ensures none { IfOk result (λ o. IfNone o (grid_given (G.given options.now) ≡ None)) }
+    ensures listed { OnErr result (list_fault (G.given options.now) ≡ None) }
 {
-    if let Some(fault) = ListFault::first(options) {
-        return Err(GridFault::List(fault));
+    if ListFault::first(options).is_some() {
+        return Ok(None);
     }
     let Some(tried) = tried_given(options) else {
         unreachable!()
     };
-    match grid_rows(alloc, options, tried) {
-        Ok(rows) => Ok(rows),
-        Err(_) => Err(GridFault::Memory),
-    }
+    let rows = grid_rows(alloc, options, tried)?;
+    Ok(Some(rows))
 }

@@ -29,7 +29,7 @@ pub mod told;
 
 pub use crate::form::Form;
 pub use crate::given::Given;
-pub use crate::grid::{GridFault, RankBy, TrialAsked};
+pub use crate::grid::{RankBy, TrialAsked};
 pub use crate::lists::{Complaint, ListFault};
 pub use crate::numbers::Load;
 pub use crate::options::{OptionRow, OptionValue};
