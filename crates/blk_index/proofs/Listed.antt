@@ -1,6 +1,6 @@
 -- The order of places.
-use Rattle.std.proofs.Common.{◌≡◌, ◌<◌, ℕ, true, false, sym, ap, ◌∙◌, refl, arith}
-use Rattle.std.specs.Ordering.{nat_cmp, ordering_then, eq_by_cmp, is_eq}
+use Rattle.std.proofs.Common.{◌≡◌, ◌<◌, ℕ, true, false, sym, ap, refl, arith}
+use Rattle.std.specs.Ordering.{nat_cmp, ordering_then, is_eq}
 use Rattle.std.specs.Cmp.{nat_cmp_total, ranked, tied_itself}
 use Rattle.std.specs.declared.cmp.Ordering.{Ordering}
 use Rattle.std.specs.declared.cmp.Ordering.TheVariants.{Less, Equal, Greater}
@@ -44,9 +44,3 @@ pub is_equal : (o : Ordering) → is_eq o ≡ true → o ≡ Equal
 is_equal Less h = cc
 is_equal Equal h = refl
 is_equal Greater h = cc
-
-pub place_true : (a b : DirSector) → eq_by_cmp place_cmp a b ≡ true → a ≡ b
-place_true a b h = same_place a b (is_equal (place_cmp a b) h)
-
-pub place_eq : (a b : DirSector) → a ≡ b → eq_by_cmp place_cmp a b ≡ true
-place_eq a b e = ap (λ (x : DirSector). eq_by_cmp place_cmp a x) (sym e) ∙ ap is_eq (place_itself a)

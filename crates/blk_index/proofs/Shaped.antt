@@ -11,7 +11,7 @@ use Rattle.blk_index.specs.Inside.Spots.{DirSector, place_cmp, IsBelow, IsNewer,
 use Rattle.ordered.specs.Ordered.{Adds, Takes, Keeps, IsGreatestBelow, NoneBelow}
 use Rattle.blk_index.specs.Keys.{keyed_cmp}
 use Rattle.blk_index.specs.Inside.Entries.{Sized, Block, Key, spanned_cmp, class_cmp, sized_cmp, block_cmp, entry_cmp}
-use Rattle.blk_index.specs.Inside.Shapes.{IsSpan, IsUnit, IsIn, IsInClass, entry_at, Spares, StandsBetween, upper_of}
+use Rattle.blk_index.specs.Inside.Shapes.{IsSpan, IsUnit, IsIn, entry_at, Spares, StandsBetween, upper_of}
 use Rattle.blk_index.proofs.Listed.{lt_of, nat_less, eq_of, same_place, place_itself, is_equal, first_less, below_zero}
 
 number_itself : (n : ℕ) → nat_cmp n n ≡ Equal

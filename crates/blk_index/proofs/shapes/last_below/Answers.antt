@@ -1,6 +1,6 @@
-use Rattle.std.proofs.Common.{◌≡◌, ◌<◌, ◌≤◌, ℕ, true, false, ap, sym, subst, ◌∙◌}
+use Rattle.std.proofs.Common.{◌≡◌, ◌<◌, ◌≤◌, ℕ, true, ap, sym, subst, ◌∙◌}
 use Rattle.ordered.specs.Ordered.{listed, IsGreatestBelow, NoneBelow}
-use Rattle.blk_index.specs.Inside.Entries.{Sized, Block, Key, class_cmp, sized_cmp, entry_cmp}
+use Rattle.blk_index.specs.Inside.Entries.{Block, Key, class_cmp, entry_cmp}
 use Rattle.blk_index.proofs.Shaped.{class_exact, same_key, other_key, no_block, of_block, block_low, block_newest}
 use Rattle.blk_index.proofs.shapes.last_below.Goals as goal
 

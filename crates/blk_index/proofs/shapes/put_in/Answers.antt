@@ -1,5 +1,4 @@
-use Rattle.std.proofs.Common.{◌≡◌, true, subst, Ok, Err, ℕ}
-use Rattle.std.specs.Prelude.{OnOk, Result}
+use Rattle.std.proofs.Common.{◌≡◌, true, subst, ℕ}
 use Rattle.ordered.specs.Ordered.{listed}
 use Rattle.blk_index.specs.Inside.Entries.{Key, entry_cmp}
 use Rattle.blk_index.specs.Inside.Shapes.{IsUnit, entry_at}

@@ -1,9 +1,8 @@
-use Rattle.std.proofs.Common.{◌≡◌, ℕ, Bool, Option, None, Some, true, false, ap, subst, sym, ◌∙◌}
+use Rattle.std.proofs.Common.{ℕ, Option, ap, subst, sym, ◌∙◌}
 use Rattle.std.specs.Prelude.{IfSome}
-use Rattle.std.specs.Ordering.{eq_by_cmp}
 use Rattle.ordered.specs.Ordered.{listed, Takes}
-use Rattle.blk_index.specs.Inside.Entries.{Key, block_cmp, entry_cmp}
-use Rattle.blk_index.specs.Inside.Shapes.{Spares, entry_at}
+use Rattle.blk_index.specs.Inside.Entries.{Key, entry_cmp}
+use Rattle.blk_index.specs.Inside.Shapes.{Spares}
 use Rattle.blk_index.proofs.Shaped.{taken_but, entry_exact, taken_spares}
 use Rattle.blk_index.proofs.shapes.take_entry.Goals as goal
 use Rattle.blk_index.proofs.shapes.take_entry.Goals.{in-Some+else-is_block, in_default}

@@ -1,4 +1,4 @@
-use Rattle.std.proofs.Common.{◌<◌, ◌≤◌, ◌^◌, ◌/◌, ℕ}
+use Rattle.std.proofs.Common.{◌<◌, ◌≤◌, ◌/◌, ℕ}
 use Rattle.std.specs.Prelude.{IfSome}
 use Rattle.blk_index.specs.Inside.Spots.{IsBelow}
 use Rattle.blk_index.specs.Inside.Shapes.{entries_in, IsSpan, IsIn, StandsBetween}
