@@ -16,11 +16,10 @@ use Rattle.text_grammar.specs.declared.Repeats.{Repeats}
 use Rattle.text_grammar.specs.declared.Repeats.TheVariants as repeats
 use Rattle.text_grammar.specs.Parts.{Begins, Spells, AllFit, all_rows, over}
 use Rattle.text_grammar.specs.Laws.{Tells}
-use Rattle.text_grammar.specs.Inside.Laws.{Decides}
-use Rattle.text_grammar.proofs.Then.{then_tells, then_decides, record_decides}
-use Rattle.text_grammar.proofs.Many.{HasRows, ended_tells, ended_decides}
-use Rattle.blk_records.proofs.TitleLaws.{IsTitleTable, title_tells, title_decides, title_reads, title_stops}
-use Rattle.blk_records.proofs.Each.{one_record, one_version}
+use Rattle.text_grammar.proofs.Then.{once, apart, first, decided, then_tells}
+use Rattle.text_grammar.proofs.Many.{ended_tells}
+use Rattle.blk_records.proofs.TitleLaws.{IsTitleTable, title_tells, title_reads, title_stops}
+use Rattle.blk_records.proofs.Each.{one_record, one_item, one_version}
 use Rattle.blk_records.proofs.Reading.{outside_fails, many_fails, past_wrong, full_stopped, then_reads, hand_reads, first_halts, second_halts, lines_halt}
 use Rattle.blk_records.proofs.Texts.{text_back}
 use Rattle.blk_capture_text.specs.Recorded.{time_at, record_at, IsRecordAfter, RecordLacks}
@@ -28,7 +27,7 @@ use Rattle.blk_capture_text.specs.Captures.{capture_title_part, last_time, recor
 use Rattle.blk_capture_text.specs.Inside.Taking.{HasRecords, HaveRows}
 use Rattle.blk_capture_text.specs.declared.reading.RecordsRead.{RecordsRead}
 use Rattle.blk_capture_text.specs.declared.reading.TheConstants.{CAPTURE, MAX_RECORDS}
-use Rattle.blk_capture_text.proofs.RowLaws.{row_tells, row_decided}
+use Rattle.blk_capture_text.proofs.RowLaws.{row_tells}
 
 -- the title
 
@@ -48,7 +47,7 @@ title_table = record {
 }
 
 capture_title_tells : Tells capture_title_part
-capture_title_tells = title_tells CAPTURE [] (λ _ (v : Unit {0}). Unit {0}) title_table
+capture_title_tells = title_tells title_table
 
 pub title_told : (left mid : Option (List Row)) (version : ℕ) (ns : List ℕ) → TakesTitle CAPTURE left mid version ns → Reads capture_title_part left mid (version, tt) × (IsVersion CAPTURE.latest version × Unit {0})
 title_told left mid version ns h = title_reads CAPTURE [] (λ _ (v : Unit {0}). Unit {0}) title_table left mid version tt ns h (tt, (tt, (tt, (tt, (tt, (tt, tt))))))
@@ -56,28 +55,13 @@ title_told left mid version ns h = title_reads CAPTURE [] (λ _ (v : Unit {0}). 
 -- a record
 
 pub row_one : (before : List Row) → IsOne (record_after before)
-row_one before = one_record (λ row. row) (IsRecordAfter (last_time before)) why.Count (RecordLacks (last_time before)) (row_tells (last_time before))
-
-row_decides : (before : List Row) → Decides (record_after before)
-row_decides before = record_decides (λ row. row) (IsRecordAfter (last_time before)) why.Count (RecordLacks (last_time before)) (λ row. elim (row_decided (last_time before) row) [
-  | inl s ↦ inl (row, s, refl)
-  | inr w ↦ inr w
-])
-
-some_rows : HasRows record_after
-some_rows s v fit e = cc e
+row_one before = one_record why.Count (row_tells (last_time before))
 
 body_tells : Tells records_body
-body_tells = ended_tells (repeats.AtMost MAX_RECORDS) why.TooLong record_after record_after with_next (λ s. (row_one s).tells) (λ s. (row_one s).plain) some_rows (λ s. (row_one s).tells) []
-
-body_decides : Decides records_body
-body_decides = ended_decides (repeats.AtMost MAX_RECORDS) why.TooLong record_after record_after with_next row_decides row_decides []
+body_tells = ended_tells (repeats.AtMost MAX_RECORDS) why.TooLong with_next (λ s. one_item (row_one s)) (λ s. (row_one s).tells) []
 
 pub capture_tells : Tells capture_form
-capture_tells = then_tells capture_title_part (λ _. records_body) capture_title_tells (λ t fit. body_tells)
-
-capture_decides : Decides capture_form
-capture_decides = then_decides capture_title_part (λ _. records_body) (title_decides CAPTURE [] (λ _ (v : Unit {0}). Unit {0}) title_table) (λ t fit. body_decides)
+capture_tells = then_tells capture_title_tells (λ t fit. body_tells)
 
 -- the rows of records are themselves
 
@@ -120,20 +104,20 @@ spelled rows body version v h = let one = one_version version v in subst (λ v. 
 
 pub spelled_once : (rows : List Row) (c d : List Record) → SpellsCapture rows c → SpellsCapture rows d → c ≡ d
 spelled_once rows c d s t =
-    let e = (capture_tells.once rows ((CAPTURE.latest, tt), s.0) ((CAPTURE.latest, tt), t.0) [] [] s.2 t.2).0 in
+    let e = (once capture_tells rows ((CAPTURE.latest, tt), s.0) ((CAPTURE.latest, tt), t.0) [] [] s.2 t.2).0 in
     s.1 ∙ ap (λ (z : List Row). map record_at z) (λ i. (e i).1) ∙ sym t.1
 
 pub spelled_or_wrong : (rows : List Row) → ((c : List Record) × SpellsCapture rows c) ⊎ ((at : ℕ) × (w : TextReason) × CaptureTextFault rows at w)
-spelled_or_wrong rows = elim (capture_decides rows) [
+spelled_or_wrong rows = elim (decided capture_tells rows) [
   | inl h ↦ inl (map record_at h.0.1, (h.0.1, refl, spelled rows h.0.1 h.0.0.0 h.2.fits.0.0 (rw h.2.follows.1.1 at h.2)))
   | inr f ↦ inr f
 ]
 
 pub spelled_no_fault : (rows : List Row) (c : List Record) (at : ℕ) (w : TextReason) → SpellsCapture rows c → CaptureTextFault rows at w → ⊥
-spelled_no_fault rows c at w s f = capture_tells.apart rows ((CAPTURE.latest, tt), s.0) [] at w s.2 f
+spelled_no_fault rows c at w s f = apart capture_tells rows ((CAPTURE.latest, tt), s.0) [] at w s.2 f
 
 pub one_fault : (rows : List Row) (at other : ℕ) (w v : TextReason) → CaptureTextFault rows at w → CaptureTextFault rows other v → (at ≡ other) × (w ≡ v)
-one_fault rows at other w v = capture_tells.first rows at other w v
+one_fault rows at other w v = first capture_tells rows at other w v
 
 row_back : (last : ℕ) (row : Row) → IsRecordAfter last row → read_back row ≡ row
 row_back last [] s = absurd (let none : 0 ≡ 8 = s.width in omega (arith, none))
@@ -188,7 +172,7 @@ abbrev pub AreTaken : RecordsRead → Option (List Row) → Option (List Row) �
 AreTaken s left new start at over = (known : HaveRows s) × AreGathered (repeats.AtMost MAX_RECORDS) record_after left new start at known.0 over
 
 halted : (failed : Bool) (left : Option (List Row)) (start at last : ℕ) (w : TextReason) → IsStopped (repeats.AtMost MAX_RECORDS) record_after left start 0 at last → Fails failed records_body left start at w → Halts failed records_body left start at w
-halted failed left start at last w = lines_halt failed record_after at_most left start at last w (λ s. (row_one s).tells) (λ s. (row_one s).plain) some_rows
+halted failed left start at last w = lines_halt failed record_after at_most left start at last w (λ s. one_item (row_one s))
 
 pub taking_halts : (failed : Bool) (left : Option (List Row)) (start at last : ℕ) (w : TextReason) → IsStopped (repeats.AtMost MAX_RECORDS) record_after left start 0 at last → Fails failed (repeated (repeats.AtMost MAX_RECORDS) record_after) left start at w
     → Halts failed records_body left start at w

@@ -120,7 +120,7 @@ late_row last cells ns s order =
 -- a row is a record's, or it lacks one thing first
 
 pub row_tells : (last : ℕ) → TellsRecord {R = Row} (λ cells. cells) (IsRecordAfter last) (RecordLacks last)
-row_tells last = record { once = λ v u f g e. e; apart = apart; first = λ cells. first_once (capture_rules last cells) }
+row_tells last = record { once = λ v u f g e. e; apart = apart; first = λ cells. first_once (capture_rules last cells); decided = decided }
   where
     apart : (v : Row) (w : TextReason) → IsRecordAfter last v → RecordLacks last v w → ⊥
     apart v w s bad = elim bad [
@@ -137,13 +137,13 @@ row_tells last = record { once = λ v u f g e. e; apart = apart; first = λ cell
       ]
     ]
 
-pub row_decided : (last : ℕ) (cells : Row) → IsRecordAfter last cells ⊎ ((w : TextReason) × RecordLacks last cells w)
-row_decided last cells = elim (goods_or_lacks RECORD cells) [
-  | inl g ↦
-      let all = goods_all RECORD cells g in
-      elim (at_most last (time_at cells)) [
-        | inl up ↦ inl (record { width = all.0.0; numbers = all.2; ranges = all.3; order = up })
-        | inr down ↦ inr (why.Order, inr (all.0.0, inr (all.2, inr (all.3, inl (refl, down)))))
-      ]
-  | inr b ↦ inr (b.0, lack_is last cells b.0 b.1)
-]
+    decided : (cells : Row) → ((v : Row) × IsRecordAfter last v × (cells ≡ v)) ⊎ ((w : TextReason) × RecordLacks last cells w)
+    decided cells = elim (goods_or_lacks RECORD cells) [
+      | inl g ↦
+          let all = goods_all RECORD cells g in
+          elim (at_most last (time_at cells)) [
+            | inl up ↦ inl (cells, record { width = all.0.0; numbers = all.2; ranges = all.3; order = up }, refl)
+            | inr down ↦ inr (why.Order, inr (all.0.0, inr (all.2, inr (all.3, inl (refl, down)))))
+          ]
+      | inr b ↦ inr (b.0, lack_is last cells b.0 b.1)
+    ]

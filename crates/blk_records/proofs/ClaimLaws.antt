@@ -1,6 +1,6 @@
 -- The laws of certificates.
 use Rattle.std.proofs.Common.{◌≡◌, ◌+◌, ◌-◌, ◌<◌, ◌^◌, ◌∙◌, ℕ, ℤ, zero, suc, pos, negsuc, List, [], ◌∷◌, ◌++◌, length, map, append-nil, Option, Some, None, refl, sym, ap, subst, inl, inr, arith, codes, get_or, decimal}
-use Rattle.std.specs.Prelude.{IfSome, All, ◌⊎◌, Bool}
+use Rattle.std.specs.Prelude.{IfSome, All, ◌⊎◌, Bool, Ok, Err}
 use Rattle.std.specs.Fmt.{signed_decimal}
 use Rattle.std.proofs.lemmas.Slice.Zip.{get_or-zip}
 use Rattle.std.specs.List.{zip}
@@ -13,7 +13,7 @@ use Rattle.edd_check.specs.declared.Window.{Window}
 use Rattle.blk_records.specs.Sources.{Row}
 use Rattle.blk_records.specs.Texts.{rows_text}
 use Rattle.blk_records.specs.Fields.{Lacks, IsSized}
-use Rattle.blk_records.specs.Words.{StartsWith, HasNoWord, WordLacks}
+use Rattle.blk_records.specs.Words.{StartsWith, HasNoWord}
 use Rattle.blk_records.specs.Commands.{IsCommandInRange}
 use Rattle.blk_records.specs.Reads.{IsOutside, Reads, Halts, IsWrongRecord, IsOne, items_of, with_next}
 use Rattle.blk_records.specs.Tables.{IsUpTo, FitsCells, row_by, slots_by}
@@ -26,16 +26,15 @@ use Rattle.blk_records.specs.declared.fault.TextReason.TheVariants as why
 use Rattle.blk_records.specs.declared.fields.Slot.TheVariants as slot
 use Rattle.blk_records.proofs.Decimals.{no_minus}
 use Rattle.text_grammar.specs.declared.Repeats.TheVariants as repeats
-use Rattle.text_grammar.specs.Parts.{Begins, NextWrong, Spells, all_rows, by_word}
-use Rattle.text_grammar.specs.Laws.{Tells}
-use Rattle.text_grammar.specs.Inside.Laws.{Either, Decides}
-use Rattle.text_grammar.proofs.Then.{record_tells, record_decides, by_word_tells, by_word_decides, seen_tells, seen_decides, then_tells, then_decides}
+use Rattle.text_grammar.specs.Parts.{Begins, Took, IsTaken, NextWrong, Spells, all_rows}
+use Rattle.text_grammar.specs.Laws.{Told, Tells}
+use Rattle.text_grammar.proofs.Then.{once, decided, record_tells, by_word_tells, seen_tells, then_tells}
 use Rattle.blk_records.proofs.Lists.{head_of, tail_of, all_cons, cons_same}
 use Rattle.blk_records.proofs.Lacking.{both, same_number, same_row, no_word_lacks, word_decided}
-use Rattle.blk_records.proofs.TableLaws.{IsTable, table_tells, table_decides, word_tells, word_decides, next_starts, next_once}
-use Rattle.blk_records.proofs.Each.{size_is, rows_map, all_fit, each_tells, each_decides, one_record, one_version}
+use Rattle.blk_records.proofs.TableLaws.{IsTable, table_tells, word_tells, next_starts, next_once}
+use Rattle.blk_records.proofs.Each.{size_is, rows_map, all_fit, each_tells, one_record, one_version}
 use Rattle.blk_records.proofs.Reading.{then_reads, ends_halt, first_halts, second_halts}
-use Rattle.blk_records.proofs.TitleLaws.{is_certificate_title, title_tells, title_decides, title_reads, title_stops}
+use Rattle.blk_records.proofs.TitleLaws.{is_certificate_title, title_tells, title_reads, title_stops}
 use Rattle.blk_records.proofs.Texts.{text_back, parts_back, begins_itself}
 use Rattle.edd_commands.specs.declared.TheConstants.{MAX_ROUNDS}
 
@@ -70,17 +69,12 @@ bound_table count = record {
 }
 
 certificate_title_tells : Tells certificate_title_part
-certificate_title_tells = title_tells CERTIFICATE counted_numbers (λ _. IsCounted) is_certificate_title
+certificate_title_tells = title_tells is_certificate_title
 
 pub served_one : IsOne served_record
-served_one = one_record (row_by served_cells) IsServed why.Count (Lacks (slots_by served_cells)) (table_tells served_cells IsServed served_table)
+served_one = one_record why.Count (table_tells served_table)
 
 -- the bound
-
-kind_table : (count : ℕ) (k : Bounded) → Tells (bound_kind count k)
-kind_table count NoBound = record_tells (λ _. no_bound_row) (λ _. count ≡ 0) why.Word (λ _ _. ⊥) (record { once = λ v u f g e. refl; apart = λ v w f bad. bad; first = λ row w x a b. absurd a })
-kind_table count SomeBound = record_tells (λ b. codes "bound" ∷ row_by (bound_cells count) b) (FitsCells (bound_cells count)) why.Word (WordLacks (codes "bound") (slots_by (bound_cells count)))
-    (word_tells (codes "bound") (bound_cells count) (FitsCells (bound_cells count)) (bound_table count))
 
 one_kind : (count : ℕ) (j k : Bounded) (rows : List Row) → TellsBound count j rows → TellsBound count k rows → j ≡ k
 one_kind count NoBound NoBound rows s t = refl
@@ -97,10 +91,13 @@ kind_starts : (count : ℕ) (k : Bounded) (rows : List Row) (v : BoundSaid k) (a
 kind_starts count NoBound rows v a h = (h.fits, (a, h.made))
 kind_starts count SomeBound rows v a h = (next_starts (codes "bound") (row_by (bound_cells count) v) rows a h.made, λ n. no_window count v n.0 h.fits)
 
-kind_decided : (count : ℕ) (k : Bounded) (rows : List Row) → TellsBound count k rows → Either (bound_kind count k) rows
-kind_decided count NoBound rows s = inl (tt, s.1.0, record { fits = s.0; made = s.1.1; follows = tt })
-kind_decided count SomeBound rows s = record_decides (λ b. codes "bound" ∷ row_by (bound_cells count) b) (FitsCells (bound_cells count)) why.Word (WordLacks (codes "bound") (slots_by (bound_cells count)))
-    (word_decides (codes "bound") (bound_cells count) (FitsCells (bound_cells count)) (bound_table count)) rows
+kind_told : (count : ℕ) (k : Bounded) (rows : List Row) → TellsBound count k rows → Told (bound_kind count k) rows
+kind_told count NoBound rows s = (Ok (tt, s.1.0), record { fits = s.0; made = s.1.1; follows = tt }, tt, only)
+  where
+    only : (t : Took Row TextReason (Unit {0})) → IsTaken (bound_kind count NoBound) rows t → Ok (tt, s.1.0) ≡ t
+    only (Ok t) h = let same = (cons_same _ _ _ _ (sym s.1.1 ∙ h.made)).1 in λ i. Ok (tt, same i)
+    only (Err f) h = absurd (rw s.1.1 at h.1)
+kind_told count SomeBound rows s = (record_tells why.Word (word_tells (codes "bound") (bound_table count))).told rows
 
 -- a record that does not begin with its word is of no kind
 pub no_kind : (count : ℕ) (row : Row) (rows : List Row) → ¬ StartsWith (codes "bound") row → (k : Bounded) → ¬ TellsBound count k (row ∷ rows)
@@ -138,8 +135,8 @@ bound_back SomeBound b = refl
 
 pub bound_one : (count : ℕ) → IsOne (bound count)
 bound_one count = record {
-  tells = seen_tells kind_of (by_word BoundSaid (TellsBound count) (bound_kind count) (NextWrong why.Word (HasNoWord 4))) (λ b c e. sym (kind_back b) ∙ ap (λ (k : (k : Bounded) × BoundSaid k). bound_of k.0 k.1) e ∙ kind_back c)
-      (by_word_tells BoundSaid (TellsBound count) (bound_kind count) (NextWrong why.Word (HasNoWord 4)) (kind_table count) (one_kind count) (kind_starts count) (next_once why.Word 4));
+  tells = seen_tells kind_of (λ b c e. sym (kind_back b) ∙ ap (λ (k : (k : Bounded) × BoundSaid k). bound_of k.0 k.1) e ∙ kind_back c) (λ v f. (bound_of v.0 v.1, bound_back v.0 v.1))
+      (by_word_tells BoundSaid (TellsBound count) (bound_kind count) (NextWrong why.Word (HasNoWord 4)) (kind_told count) (one_kind count) (kind_starts count) (next_once why.Word 4) (kind_found count));
   plain = plain;
   one = one;
 }
@@ -151,10 +148,6 @@ bound_one count = record {
     one : (b : Option (ℤ × Window)) → length ((bound count).rows_of b) ≡ 1
     one None = refl
     one (Some b) = refl
-
-bound_decides : (count : ℕ) → Decides (bound count)
-bound_decides count = seen_decides kind_of (by_word BoundSaid (TellsBound count) (bound_kind count) (NextWrong why.Word (HasNoWord 4))) (λ v f. (bound_of v.0 v.1, bound_back v.0 v.1))
-    (by_word_decides BoundSaid (TellsBound count) (bound_kind count) (NextWrong why.Word (HasNoWord 4)) (kind_decided count) (kind_found count))
 
 late_in : (z : ℤ) → IsLateness z → IsUpTo (MAX_ROUNDS - 1) z
 late_in (pos n) h = omega (arith, h)
@@ -177,23 +170,13 @@ bound_in (suc n) (Some b) f = let from = f.1.0.1 in let due = f.1.1.0.1 in (omeg
 -- whole certificates
 
 pub items_tell : (count : ℕ) → Tells (items_of (repeats.Exactly count) (λ _. served_record))
-items_tell count = each_tells served_record served_one (repeats.Exactly count)
+items_tell count = each_tells served_one (repeats.Exactly count)
 
 pub body_tells : (count : ℕ) → Tells (claim_body count)
-body_tells count = then_tells (bound count) (λ b. items_of (repeats.Exactly count) (λ _. served_record)) (bound_one count).tells (λ b fit. items_tell count)
+body_tells count = then_tells (bound_one count).tells (λ b fit. items_tell count)
 
 pub claim_tells : Tells claim_form
-claim_tells = then_tells certificate_title_part (λ t. claim_body t.1.1) certificate_title_tells (λ t fit. body_tells t.1.1)
-
-pub served_record_decides : Decides served_record
-served_record_decides = record_decides (row_by served_cells) IsServed why.Count (Lacks (slots_by served_cells)) (table_decides served_cells IsServed served_table)
-
-pub served_decides : (count : ℕ) → Decides (items_of (repeats.Exactly count) (λ _. served_record))
-served_decides count = each_decides served_record served_record_decides (repeats.Exactly count)
-
-pub claim_decides : Decides claim_form
-claim_decides = then_decides certificate_title_part (λ t. claim_body t.1.1) (title_decides CERTIFICATE counted_numbers (λ _. IsCounted) is_certificate_title)
-    (λ t fit. then_decides (bound t.1.1) (λ b. items_of (repeats.Exactly t.1.1) (λ _. served_record)) (bound_decides t.1.1) (λ b fit. served_decides t.1.1))
+claim_tells = then_tells certificate_title_tells (λ t fit. body_tells t.1.1)
 
 pub all_zip : (cs : List Command) (rs : List ℕ) → All IsCommandInRange cs → All (λ x. x < MAX_ROUNDS) rs → All IsServed (zip cs rs)
 all_zip [] rs p q = λ k d l. absurd (omega arith)
@@ -217,7 +200,7 @@ same_claim c d p q r s i = record { depth = p i; commands = q i; rounds = r i; b
 
 pub spelled_once : (rows : List Row) (c d : Claim) → SpellsClaim rows c → SpellsClaim rows d → c ≡ d
 spelled_once rows c d s t =
-    let e = (claim_tells.once rows (claim_value c) (claim_value d) [] [] s.1 t.1).0 in
+    let e = (once claim_tells rows (claim_value c) (claim_value d) [] [] s.1 t.1).0 in
     let both : zip c.commands c.rounds ≡ zip d.commands d.rounds = λ i. (e i).1.1 in
     same_claim c d (λ i. (e i).0.1.0)
     (sym (firsts_zip c.commands c.rounds s.0) ∙ ap (map (λ (k : Command × ℕ). k.0)) both ∙ firsts_zip d.commands d.rounds t.0)
@@ -293,7 +276,7 @@ claim_spelled rows version depth count b lines cs rs v n p q h =
     rw (p, q) (d ∙ sym c, subst (λ v. Spells claim_form rows v) (λ i. ((one i, (depth, number i)), (b, sym (zipped lines) i))) h)
 
 pub spelled_or_wrong : (rows : List Row) → ((c : Claim) × SpellsClaim rows c) ⊎ ((at : ℕ) × (w : TextReason) × ClaimFault rows at w)
-spelled_or_wrong rows = elim (claim_decides rows) [
+spelled_or_wrong rows = elim (decided claim_tells rows) [
   | inl h ↦ (let f = h.2.fits in let t = h.0.0 in let lines = h.0.1.1 in
       inl (
         record { depth = t.1.0; commands = firsts lines; rounds = seconds lines; bound = h.0.1.0 },

@@ -6,9 +6,8 @@ use Rattle.csv.specs.Writing.{read_back}
 use Rattle.edd_commands.specs.declared.Command.{Command}
 use Rattle.blk_records.specs.Sources.{Row}
 use Rattle.blk_records.specs.Texts.{rows_text}
-use Rattle.blk_records.specs.Fields.{Lacks}
 use Rattle.blk_records.specs.Reads.{Reads, Halts, IsOne, items_of}
-use Rattle.blk_records.specs.Tables.{FitsCells, row_by, slots_by}
+use Rattle.blk_records.specs.Tables.{FitsCells, row_by}
 use Rattle.blk_records.specs.Titles.{IsVersion, title_by, TakesTitle, StopsAtTitle}
 use Rattle.blk_records.specs.declared.commands.TheConstants.{COMMANDS}
 use Rattle.blk_records.specs.Commands.{depth_number, IsDepth, commands_title_part, command_cells, command, command_list, IsCommandInRange, SpellsCommands, CommandsFault, AreCommands, commands_rows}
@@ -17,11 +16,10 @@ use Rattle.blk_records.specs.declared.fault.TextReason.TheVariants as why
 use Rattle.text_grammar.specs.declared.Repeats.TheVariants as repeats
 use Rattle.text_grammar.specs.Parts.{Begins, Spells}
 use Rattle.text_grammar.specs.Laws.{Tells}
-use Rattle.text_grammar.specs.Inside.Laws.{Decides}
-use Rattle.text_grammar.proofs.Then.{then_tells, then_decides, record_decides}
-use Rattle.blk_records.proofs.TableLaws.{IsTable, table_tells, table_decides}
-use Rattle.blk_records.proofs.TitleLaws.{IsTitleTable, title_tells, title_decides, title_reads, title_stops}
-use Rattle.blk_records.proofs.Each.{rows_map, all_fit, each_tells, each_decides, one_record, one_version}
+use Rattle.text_grammar.proofs.Then.{once, decided, then_tells}
+use Rattle.blk_records.proofs.TableLaws.{IsTable, table_tells}
+use Rattle.blk_records.proofs.TitleLaws.{IsTitleTable, title_tells, title_reads, title_stops}
+use Rattle.blk_records.proofs.Each.{rows_map, all_fit, each_tells, one_record, one_version}
 use Rattle.blk_records.proofs.Reading.{then_reads, first_halts, second_halts}
 use Rattle.blk_records.proofs.Texts.{text_back, parts_back, begins_itself}
 use Rattle.edd_commands.specs.declared.TheConstants.{MAX_COMMANDS}
@@ -48,24 +46,20 @@ command_table = record {
 }
 
 commands_tell : Tells commands_title_part
-commands_tell = title_tells COMMANDS depth_number (λ _. IsDepth) title
+commands_tell = title_tells title
 
 pub command_one : IsOne command
-command_one = one_record (row_by command_cells) IsCommandInRange why.Count (Lacks (slots_by command_cells)) (table_tells command_cells IsCommandInRange command_table)
+command_one = one_record why.Count (table_tells command_table)
 
 pub list_tells : Tells command_list
-list_tells = then_tells commands_title_part (λ t. items_of (repeats.AtMost MAX_COMMANDS) (λ _. command)) commands_tell (λ t fit. each_tells command command_one (repeats.AtMost MAX_COMMANDS))
-
-list_decides : Decides command_list
-list_decides = then_decides commands_title_part (λ t. items_of (repeats.AtMost MAX_COMMANDS) (λ _. command)) (title_decides COMMANDS depth_number (λ _. IsDepth) title)
-    (λ t fit. each_decides command (record_decides (row_by command_cells) IsCommandInRange why.Count (Lacks (slots_by command_cells)) (table_decides command_cells IsCommandInRange command_table)) (repeats.AtMost MAX_COMMANDS))
+list_tells = then_tells commands_tell (λ t fit. each_tells command_one (repeats.AtMost MAX_COMMANDS))
 
 -- records that were taken for a title and commands spell them
 list_spelled : (rows : List Row) (version depth : ℕ) (commands : List Command) → IsVersion 1 version → Spells command_list rows ((version, depth), commands) → SpellsCommands rows depth commands
 list_spelled rows version depth commands v h = let one = one_version version v in subst (λ v. Spells command_list rows v) (λ i. ((one i, depth), commands)) h
 
 pub spelled_or_wrong : (rows : List Row) → ((depth : ℕ) × (commands : List Command) × SpellsCommands rows depth commands) ⊎ ((at : ℕ) × (w : TextReason) × CommandsFault rows at w)
-spelled_or_wrong rows = elim (list_decides rows) [
+spelled_or_wrong rows = elim (decided list_tells rows) [
   | inl h ↦ inl (h.0.0.1, h.0.1, list_spelled rows h.0.0.0 h.0.0.1 h.0.1 h.2.fits.0.0 (rw h.2.follows.1.1 at h.2))
   | inr f ↦ inr f
 ]
@@ -87,7 +81,7 @@ read_back_is depth commands h =
 
 pub spelled_once : (rows : List Row) (depth other : ℕ) (commands others : List Command) → SpellsCommands rows depth commands → SpellsCommands rows other others → (depth ≡ other) × (commands ≡ others)
 spelled_once rows depth other commands others s t =
-    let e = (list_tells.once rows ((COMMANDS.latest, depth), commands) ((COMMANDS.latest, other), others) [] [] s t).0 in
+    let e = (once list_tells rows ((COMMANDS.latest, depth), commands) ((COMMANDS.latest, other), others) [] [] s t).0 in
     (λ i. (e i).0.1, λ i. (e i).1)
 
 -- reading
@@ -106,7 +100,7 @@ title_told left mid t h = title_reads COMMANDS depth_number (λ _. IsDepth) titl
 
 pub title_halts : (failed : Bool) (left : Option (List Row)) (at : ℕ) (w : TextReason) → at ≡ 1 → StopsAtTitle COMMANDS failed left w → Halts failed command_list left 0 at w
 title_halts failed left at w e h =
-    first_halts failed commands_title_part (λ t. items_of (repeats.AtMost MAX_COMMANDS) (λ _. command)) left 0 at w (λ t fit. each_tells command command_one (repeats.AtMost MAX_COMMANDS))
+    first_halts failed commands_title_part (λ t. items_of (repeats.AtMost MAX_COMMANDS) (λ _. command)) left 0 at w (λ t fit. each_tells command_one (repeats.AtMost MAX_COMMANDS))
     (title_stops COMMANDS depth_number (λ _. IsDepth) title failed left 0 at w (omega (arith, e)) h)
 
 pub list_halts : (failed : Bool) (left mid : Option (List Row)) (t : ℕ × ℕ) (middle at : ℕ) (w : TextReason) → middle ≡ 1 → Reads commands_title_part left mid t → Halts failed (items_of (repeats.AtMost MAX_COMMANDS) (λ _. command)) mid middle at w

@@ -9,9 +9,9 @@ use Rattle.blk_records.specs.declared.fault.TextReason.{TextReason}
 use Rattle.text_grammar.specs.Parts.{Part, record_of, all_rows, AllFit}
 use Rattle.text_grammar.specs.declared.Repeats.{Repeats}
 use Rattle.text_grammar.specs.Laws.{Tells}
-use Rattle.text_grammar.specs.Inside.Laws.{TellsRecord, Decides}
+use Rattle.text_grammar.specs.Inside.Laws.{TellsRecord, IsItem}
 use Rattle.text_grammar.proofs.Then.{record_tells}
-use Rattle.text_grammar.proofs.Many.{HasRows, many_tells, many_decides, ended_tells, ended_decides}
+use Rattle.text_grammar.proofs.Many.{many_tells, ended_tells}
 use Rattle.blk_records.proofs.Reading.{lines_halt, many_halt}
 use Rattle.blk_records.proofs.Lists.{head_of, tail_of, all_cons}
 
@@ -34,32 +34,27 @@ pub all_fit : {V : Type 0} (p : Part Row TextReason V) (s vs : List V) → All p
 all_fit p s [] f = tt
 all_fit p s (v ∷ vs) f = (head_of p.Fits v vs f, all_fit p (s ++ v ∷ []) vs (tail_of p.Fits v vs f))
 
-some_rows : {V : Type 0} (p : Part Row TextReason V) → IsOne p → HasRows {S = List V} (λ _. p)
-some_rows p o s v fit e = let none : length (p.rows_of v) ≡ 0 = ap length e in omega (arith, none, o.one v)
+-- a part of one record is an item
+pub one_item : {V : Type 0} {p : Part Row TextReason V} → IsOne p → IsItem p
+one_item {V} {p} o = record { tells = o.tells; plain = o.plain; some = λ v fit e. (let none : length (p.rows_of v) ≡ 0 = ap length e in omega (arith, none, o.one v)) }
 
-pub each_tells : {V : Type 0} (p : Part Row TextReason V) → IsOne p → (x : Repeats) → Tells (items_of x (λ _. p))
-each_tells p o x = ended_tells x (beyond_of x) (λ _. p) (λ _. p) with_next (λ s. o.tells) (λ s. o.plain) (some_rows p o) (λ s. o.tells) []
+pub each_tells : {V : Type 0} {p : Part Row TextReason V} → IsOne p → (x : Repeats) → Tells (items_of x (λ _. p))
+each_tells o x = ended_tells x (beyond_of x) with_next (λ s. one_item o) (λ s. o.tells) []
 
-pub each_decides : {V : Type 0} (p : Part Row TextReason V) → Decides p → (x : Repeats) → Decides (items_of x (λ _. p))
-each_decides p d x = ended_decides x (beyond_of x) (λ _. p) (λ _. p) with_next (λ s. d) (λ s. d) []
-
-pub repeated_tells : {V : Type 0} (p : Part Row TextReason V) → IsOne p → (x : Repeats) → Tells (repeated x (λ _. p))
-repeated_tells p o x = many_tells x (λ _. p) with_next (λ s. o.tells) (λ s. o.plain) (some_rows p o) []
-
-pub repeated_decides : {V : Type 0} (p : Part Row TextReason V) → Decides p → (x : Repeats) → Decides (repeated x (λ _. p))
-repeated_decides p d x = many_decides x (λ _. p) with_next (λ s. d) []
+pub repeated_tells : {V : Type 0} {p : Part Row TextReason V} → IsOne p → (x : Repeats) → Tells (repeated x (λ _. p))
+repeated_tells o x = many_tells x with_next (λ s. one_item o) []
 
 pub repeated_halts : {V : Type 0} (failed : Bool) (p : Part Row TextReason V) → IsOne p → (x : Repeats) (left : Option (List Row)) (start at last : ℕ) (w : TextReason) → IsStopped x (λ _. p) left start 0 at last
     → Fails failed (repeated x (λ _. p)) left start at w → Halts failed (repeated x (λ _. p)) left start at w
-repeated_halts failed p o x left start at last w = many_halt failed (λ _. p) x left start at last w (λ s. o.tells) (λ s. o.plain) (some_rows p o)
+repeated_halts failed p o x left start at last w = many_halt failed (λ _. p) x left start at last w (λ s. one_item o)
 
 pub each_halts : {V : Type 0} (failed : Bool) (p : Part Row TextReason V) → IsOne p → (x : Repeats) (left : Option (List Row)) (start at last : ℕ) (w : TextReason) → IsStopped x (λ _. p) left start 0 at last
     → Fails failed (items_of x (λ _. p)) left start at w → Halts failed (items_of x (λ _. p)) left start at w
-each_halts failed p o x left start at last w = lines_halt failed (λ _. p) x left start at last w (λ s. o.tells) (λ s. o.plain) (some_rows p o)
+each_halts failed p o x left start at last w = lines_halt failed (λ _. p) x left start at last w (λ s. one_item o)
 
 -- a kind of record is a part of one
-pub one_record : {V : Type 0} (row_of : V → Row) (Fits : V → Type 0) (gone : TextReason) (Lacks : Row → TextReason → Type 0) → TellsRecord row_of Fits Lacks → IsOne (record_of row_of Fits gone Lacks)
-one_record row_of Fits gone Lacks t = record { tells = record_tells row_of Fits gone Lacks t; plain = λ v rest fit. tt; one = λ v. refl }
+pub one_record : {V : Type 0} {row_of : V → Row} {Fits : V → Type 0} {Lacks : Row → TextReason → Type 0} (gone : TextReason) → TellsRecord row_of Fits Lacks → IsOne (record_of row_of Fits gone Lacks)
+one_record gone t = record { tells = record_tells gone t; plain = λ v rest fit. tt; one = λ v. refl }
 
 pub one_version : (version : ℕ) → IsVersion 1 version → version ≡ 1
 one_version version h = let high = h.1 in let low = h.0 in omega (arith, low, high)

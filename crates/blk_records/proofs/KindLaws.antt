@@ -15,10 +15,9 @@ use Rattle.blk_records.specs.declared.fault.TextReason.{TextReason}
 use Rattle.blk_records.specs.declared.fields.Slot.{Slot}
 use Rattle.blk_records.specs.declared.fields.Slot.TheVariants as slot
 use Rattle.blk_records.proofs.Lacking.{Dec, both, at_most, same_text}
-use Rattle.blk_records.proofs.TableLaws.{AllTold, all_told, Sized, IsTable, IsBy, first_is, begins, word_line, kinds_tell, kinds_decide}
+use Rattle.blk_records.proofs.TableLaws.{AllTold, all_told, Sized, IsTable, IsBy, first_is, begins, word_line, kinds_tell}
 use Rattle.blk_records.specs.Kinds.{KindRow, StandsFrom, Told, cells_of, RowSaid, HasRow, RowStandsIn, said_record}
 use Rattle.text_grammar.specs.Laws.{Tells}
-use Rattle.text_grammar.specs.Inside.Laws.{Decides}
 
 -- a greatest number fits its width
 abbrev pub SizedSlots : List Slot → Type 0
@@ -168,11 +167,7 @@ picked (r ∷ rows) version f = elim (both (stands_decided r.since version) (sam
 
 pub said_tells : (gone : TextReason) (width : ℕ) (table : List KindRow) (version : ℕ) → IsKinds table → Tells (said_record gone width table version)
 said_tells gone width table version t = kinds_tell (λ (k : KindRow). Told k.slots) gone width (RowStandsIn table version) (λ (k : KindRow). k.word) (λ (k : KindRow). cells_of k.slots (λ v. v))
-    (λ j k s z e. one_word table j k t.words s.0 z.0 e) (λ k s. row_table k.slots (row_in (λ r. SizedSlots r.slots) table k t.sized s.0))
-
-pub said_decides : (gone : TextReason) (width : ℕ) (table : List KindRow) (version : ℕ) → IsKinds table → Decides (said_record gone width table version)
-said_decides gone width table version t = kinds_decide (λ (k : KindRow). Told k.slots) gone width (RowStandsIn table version) (λ (k : KindRow). k.word) (λ (k : KindRow). cells_of k.slots (λ v. v))
-    (picked table version) (λ k s. row_table k.slots (row_in (λ r. SizedSlots r.slots) table k t.sized s.0))
+    (λ j k s z e. one_word table j k t.words s.0 z.0 e) (picked table version) (λ k s. row_table k.slots (row_in (λ r. SizedSlots r.slots) table k t.sized s.0))
 
 -- what was read of a record whose first field is asked for the word of a row
 

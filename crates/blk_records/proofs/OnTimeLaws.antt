@@ -10,9 +10,8 @@ use Rattle.edd_check.specs.declared.Window.{Window}
 use Rattle.edd_check.specs.Window.{WindowInRange}
 use Rattle.blk_records.specs.Sources.{Row}
 use Rattle.blk_records.specs.Texts.{rows_text}
-use Rattle.blk_records.specs.Words.{WordLacks}
 use Rattle.blk_records.specs.Reads.{IsOutside, Reads, Halts, IsOne, items_of, with_next}
-use Rattle.blk_records.specs.Tables.{FitsCells, row_by, slots_by}
+use Rattle.blk_records.specs.Tables.{FitsCells, row_by}
 use Rattle.blk_records.specs.Titles.{IsVersion, IsCounted, counted_numbers, title_by, TakesTitle, StopsAtTitle}
 use Rattle.blk_records.specs.Certificate.{served_cells, served_record, IsServed}
 use Rattle.blk_records.specs.OnTime.{OnTimeClaim, IsOnTimeClaim, AreFew, on_time_cells, window_cells, on_time_title, on_time_numbers, window, windows, cover_body, on_time_body, on_time_form, on_time_told, on_time_value, on_time_rows, SpellsOnTime, OnTimeClaimFault}
@@ -22,14 +21,13 @@ use Rattle.blk_records.specs.declared.fault.TextReason.TheVariants as why
 use Rattle.text_grammar.specs.declared.Repeats.TheVariants as repeats
 use Rattle.text_grammar.specs.Parts.{Begins, Spells, all_rows}
 use Rattle.text_grammar.specs.Laws.{Tells}
-use Rattle.text_grammar.specs.Inside.Laws.{Decides}
-use Rattle.text_grammar.proofs.Then.{record_decides, then_tells, then_decides}
-use Rattle.blk_records.proofs.TableLaws.{IsTable, word_tells, word_decides}
-use Rattle.blk_records.proofs.Each.{size_is, rows_map, all_fit, repeated_tells, repeated_decides, one_record, one_version}
+use Rattle.text_grammar.proofs.Then.{once, decided, then_tells}
+use Rattle.blk_records.proofs.TableLaws.{IsTable, word_tells}
+use Rattle.blk_records.proofs.Each.{size_is, rows_map, all_fit, repeated_tells, one_record, one_version}
 use Rattle.blk_records.proofs.Reading.{then_reads, ends_halt, first_halts, second_halts}
 use Rattle.blk_records.proofs.Texts.{text_back, items_back, parts_back, begins_itself}
-use Rattle.blk_records.proofs.TitleLaws.{is_on_time_title, title_tells, title_decides, title_reads, title_stops}
-use Rattle.blk_records.proofs.ClaimLaws.{served_one, served_decides, items_tell, firsts, seconds, all_zip, all_first, all_second, firsts_zip, seconds_zip, length_zip, zipped}
+use Rattle.blk_records.proofs.TitleLaws.{is_on_time_title, title_tells, title_reads, title_stops}
+use Rattle.blk_records.proofs.ClaimLaws.{served_one, items_tell, firsts, seconds, all_zip, all_first, all_second, firsts_zip, seconds_zip, length_zip, zipped}
 
 -- the tables
 
@@ -63,38 +61,31 @@ abbrev pub window_row : Window → Row
 window_row w = codes "window" ∷ row_by window_cells w
 
 pub numbers_one : IsOne on_time_numbers
-numbers_one = one_record numbers_row AreFew why.Word (WordLacks (codes "met") (slots_by on_time_cells)) (word_tells (codes "met") on_time_cells AreFew on_time_table)
+numbers_one = one_record why.Word (word_tells (codes "met") on_time_table)
 
 pub window_one : IsOne window
-window_one = one_record window_row WindowInRange why.Count (WordLacks (codes "window") (slots_by window_cells)) (word_tells (codes "window") window_cells WindowInRange window_table)
+window_one = one_record why.Count (word_tells (codes "window") window_table)
 
 -- whole certificates
 
 windows_tell : (most : ℕ) → Tells (windows most)
-windows_tell most = repeated_tells window window_one (repeats.Exactly most)
+windows_tell most = repeated_tells window_one (repeats.Exactly most)
 
 cover_tells : (most count : ℕ) → Tells (cover_body most count)
-cover_tells most count = then_tells (windows most) (λ _. items_of (repeats.Exactly count) (λ _. served_record)) (windows_tell most) (λ ws fit. items_tell count)
+cover_tells most count = then_tells (windows_tell most) (λ ws fit. items_tell count)
 
 pub body_tells : (count : ℕ) → Tells (on_time_body count)
-body_tells count = then_tells on_time_numbers (λ n. cover_body n.1 count) numbers_one.tells (λ n fit. cover_tells n.1 count)
+body_tells count = then_tells numbers_one.tells (λ n fit. cover_tells n.1 count)
 
 pub on_time_tells : Tells on_time_form
-on_time_tells = then_tells on_time_title (λ t. on_time_body t.1.1) (title_tells ON_TIME counted_numbers (λ _. IsCounted) is_on_time_title) (λ t fit. body_tells t.1.1)
-
-pub on_time_decides : Decides on_time_form
-on_time_decides = then_decides on_time_title (λ t. on_time_body t.1.1) (title_decides ON_TIME counted_numbers (λ _. IsCounted) is_on_time_title)
-    (λ t fit. then_decides on_time_numbers (λ n. cover_body n.1 t.1.1) (record_decides numbers_row AreFew why.Word (WordLacks (codes "met") (slots_by on_time_cells)) (word_decides (codes "met") on_time_cells AreFew on_time_table))
-    (λ n fits. then_decides (windows n.1) (λ _. items_of (repeats.Exactly t.1.1) (λ _. served_record))
-    (repeated_decides window (record_decides window_row WindowInRange why.Count (WordLacks (codes "window") (slots_by window_cells)) (word_decides (codes "window") window_cells WindowInRange window_table)) (repeats.Exactly n.1))
-    (λ ws all. served_decides t.1.1)))
+on_time_tells = then_tells (title_tells is_on_time_title) (λ t fit. body_tells t.1.1)
 
 same_on_time : (c d : OnTimeClaim) → c.depth ≡ d.depth → c.commands ≡ d.commands → c.rounds ≡ d.rounds → c.on_time ≡ d.on_time → c.cover ≡ d.cover → c ≡ d
 same_on_time c d p q r s t i = record { depth = p i; commands = q i; rounds = r i; on_time = s i; cover = t i }
 
 pub spelled_once : (rows : List Row) (c d : OnTimeClaim) → SpellsOnTime rows c → SpellsOnTime rows d → c ≡ d
 spelled_once rows c d s t =
-    let e = (on_time_tells.once rows (on_time_value c) (on_time_value d) [] [] s.1 t.1).0 in
+    let e = (once on_time_tells rows (on_time_value c) (on_time_value d) [] [] s.1 t.1).0 in
     let both : zip c.commands c.rounds ≡ zip d.commands d.rounds = λ i. (e i).1.1.1 in
     same_on_time c d (λ i. (e i).0.1.0)
     (sym (firsts_zip c.commands c.rounds s.0) ∙ ap (map (λ (k : Command × ℕ). k.0)) both ∙ firsts_zip d.commands d.rounds t.0)
@@ -145,7 +136,7 @@ on_time_spelled rows version depth count on_time many ws lines v m n h =
     (d ∙ sym c, subst (λ v. Spells on_time_form rows v) (λ i. ((one i, (depth, number i)), ((on_time, sym m i), (ws, sym (zipped lines) i)))) h)
 
 pub spelled_or_wrong : (rows : List Row) → ((c : OnTimeClaim) × SpellsOnTime rows c) ⊎ ((at : ℕ) × (w : TextReason) × OnTimeClaimFault rows at w)
-spelled_or_wrong rows = elim (on_time_decides rows) [
+spelled_or_wrong rows = elim (decided on_time_tells rows) [
   | inl h ↦ (let f = h.2.fits in let t = h.0.0 in let n = h.0.1.0 in let ws = h.0.1.1.0 in let lines = h.0.1.1.1 in
       inl (
         record { depth = t.1.0; commands = firsts lines; rounds = seconds lines; on_time = n.0; cover = ws },
@@ -223,4 +214,4 @@ title_halts failed left at w e h =
     first_halts failed on_time_title (λ t. on_time_body t.1.1) left 0 at w (λ t fit. body_tells t.1.1) (title_stops ON_TIME counted_numbers (λ _. IsCounted) is_on_time_title failed left 0 at w (omega (arith, e)) h)
 
 pub body_halts : (failed : Bool) (left mid : Option (List Row)) (t : ℕ × (ℕ × ℕ)) (at : ℕ) (w : TextReason) → Reads on_time_title left mid t → Halts failed (on_time_body t.1.1) mid 1 at w → Halts failed on_time_form left 0 at w
-body_halts failed left mid t at w r h = second_halts failed on_time_title (λ t. on_time_body t.1.1) left mid t 0 1 at w (title_tells ON_TIME counted_numbers (λ _. IsCounted) is_on_time_title) r refl h
+body_halts failed left mid t at w r h = second_halts failed on_time_title (λ t. on_time_body t.1.1) left mid t 0 1 at w (title_tells is_on_time_title) r refl h

@@ -8,7 +8,6 @@ use Rattle.blk_records.specs.Certificate.{Claim, certificate_title_part, claim_b
 use Rattle.blk_records.specs.OnTime.{OnTimeClaim, on_time_title, on_time_body, SpellsOnTime}
 use Rattle.blk_records.specs.Proof.{ProofClaim, OfLateness, OfOnTime, proof_name, Shown, form_of, StartsAs, IsProofNameFault, proof_form, SpellsProof, ProofFault}
 use Rattle.blk_records.specs.Inside.Proof.{kind_title, proof_title}
-use Rattle.blk_records.specs.Titles.{IsCounted, counted_numbers}
 use Rattle.blk_records.specs.declared.certificate.TheConstants.{CERTIFICATE}
 use Rattle.blk_records.specs.declared.on_time.TheConstants.{ON_TIME}
 use Rattle.blk_records.specs.declared.proof.ProofKind.{ProofKind}
@@ -17,7 +16,7 @@ use Rattle.blk_records.specs.declared.fault.TextReason.{TextReason}
 use Rattle.blk_records.specs.declared.fault.TextReason.TheVariants as why
 use Rattle.text_grammar.specs.Parts.{Begins, GetsTo}
 use Rattle.text_grammar.specs.Laws.{Tells}
-use Rattle.text_grammar.proofs.Then.{reached_first, by_word_tells, kind_reached, kinds_reached}
+use Rattle.text_grammar.proofs.Then.{apart, reached_first, by_word_tells, kind_reached, kinds_reached}
 use Rattle.blk_records.proofs.Lacking.{word_decided}
 use Rattle.blk_records.proofs.TableLaws.{next_starts, next_same}
 use Rattle.blk_records.proofs.TitleLaws.{is_certificate_title, is_on_time_title, title_tells}
@@ -42,8 +41,8 @@ titles_start kind.Lateness rows v a h = next_starts CERTIFICATE.word _ rows a h.
 titles_start kind.OnTime rows v a h = next_starts ON_TIME.word _ rows a h.made
 
 titles_tell : (k : ProofKind) → Tells (kind_title k)
-titles_tell kind.Lateness = title_tells CERTIFICATE counted_numbers (λ _. IsCounted) is_certificate_title
-titles_tell kind.OnTime = title_tells ON_TIME counted_numbers (λ _. IsCounted) is_on_time_title
+titles_tell kind.Lateness = title_tells is_certificate_title
+titles_tell kind.OnTime = title_tells is_on_time_title
 
 forms_start : (k : ProofKind) (rows : List Row) (v : Shown k) (a : List Row) → Begins (form_of k) rows v a → StartsAs k rows
 forms_start kind.Lateness rows v a h = next_starts (codes "blk-certificate") _ rows _ h.made
@@ -75,7 +74,7 @@ one_row kind.OnTime t = refl
 
 pub title_one : IsOne proof_title
 title_one = record {
-  tells = by_word_tells (λ _. ℕ × (ℕ × ℕ)) StartsAs kind_title IsProofNameFault titles_tell one_name titles_start (λ rows w x a b. a ∙ sym b);
+  tells = by_word_tells (λ _. ℕ × (ℕ × ℕ)) StartsAs kind_title IsProofNameFault (λ k rows s. (titles_tell k).told rows) one_name titles_start (λ rows w x a b. a ∙ sym b) name_found;
   plain = λ t rest fit. follows t.0 t.1 rest;
   one = λ t. one_row t.0 t.1;
 }
@@ -90,7 +89,7 @@ forms_tell kind.Lateness = claim.claim_tells
 forms_tell kind.OnTime = on_time_laws.on_time_tells
 
 pub proof_tells : Tells proof_form
-proof_tells = by_word_tells Shown StartsAs form_of IsProofNameFault forms_tell one_name forms_start (λ rows w x a b. a ∙ sym b)
+proof_tells = by_word_tells Shown StartsAs form_of IsProofNameFault (λ k rows s. (forms_tell k).told rows) one_name forms_start (λ rows w x a b. a ∙ sym b) name_found
 
 -- what is wrong with the records of a kind is wrong
 pub wrong_of : (k : ProofKind) (rows : List Row) (at : ℕ) (w : TextReason) → StartsAs k rows → (form_of k).Wrong rows at w → ProofFault rows at w
@@ -133,8 +132,8 @@ spelled_or_wrong rows = elim (name_found rows) [
     ]
 
 pub spelled_apart : (rows : List Row) (c : ProofClaim) (at : ℕ) (w : TextReason) → SpellsProof rows c → ProofFault rows at w → ⊥
-spelled_apart rows (OfLateness c) at w s f = claim.claim_tells.apart rows _ _ at w s.1 (of_wrong kind.Lateness rows at w (claim_named rows c s) f)
-spelled_apart rows (OfOnTime c) at w s f = on_time_laws.on_time_tells.apart rows _ _ at w s.1 (of_wrong kind.OnTime rows at w (on_time_named rows c s) f)
+spelled_apart rows (OfLateness c) at w s f = apart claim.claim_tells rows _ _ at w s.1 (of_wrong kind.Lateness rows at w (claim_named rows c s) f)
+spelled_apart rows (OfOnTime c) at w s f = apart on_time_laws.on_time_tells rows _ _ at w s.1 (of_wrong kind.OnTime rows at w (on_time_named rows c s) f)
 
 two_names : (rows : List Row) → NextStarts (codes "blk-certificate") rows → NextStarts (codes "blk-met") rows → ⊥
 two_names rows s t = let e = one_name kind.Lateness kind.OnTime rows s t in cc e

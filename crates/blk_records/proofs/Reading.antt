@@ -7,10 +7,11 @@ use Rattle.blk_records.specs.declared.fault.TextReason.{TextReason}
 use Rattle.text_grammar.specs.declared.Repeats.{Repeats}
 use Rattle.text_grammar.specs.declared.Repeats.TheVariants as repeats
 use Rattle.text_grammar.specs.Parts.{then, over, Part, Begins, GetsTo, all_rows, AllFit, after, GoesOn, Stops, IsCount, most_of}
-use Rattle.text_grammar.specs.Laws.{Tells, IsPlain}
-use Rattle.text_grammar.proofs.Many.{all_more, fit_more, ended_reached, many_reached, HasRows}
-use Rattle.text_grammar.proofs.Then.{both_begin, reached_first, reached_second, after_all_reached}
-use Rattle.blk_records.specs.Reads.{IsOutside, Reads, HandReads, HandFails, Fails, Halts, Reaches, IsRowOf, IsStopped, ItemsBefore, with_next, repeated, ended_of, items_of, size_of, beyond_of}
+use Rattle.text_grammar.specs.Laws.{Tells}
+use Rattle.text_grammar.specs.Inside.Laws.{IsItem}
+use Rattle.text_grammar.proofs.Many.{all_more, fit_more, ended_reached, many_reached}
+use Rattle.text_grammar.proofs.Then.{both_begin, at_first, reached_first, reached_second, after_all_reached}
+use Rattle.blk_records.specs.Reads.{IsOutside, Reads, HandReads, HandFails, Fails, Halts, Reaches, IsRowOf, IsWrongRecord, IsStopped, ItemsBefore, with_next, repeated, ended_of, items_of, size_of, beyond_of}
 
 takes_some : (rest : List Row) (after : Option (List Row)) (f : Row) → TakesRecord (Some rest) after f true → (more : List Row) × (rest ≡ f ∷ more) × (after ≡ Some more)
 takes_some [] after f t = cc t
@@ -171,6 +172,18 @@ pub hand_reads : {V : Type 0} (p : Part Row TextReason V) (left : Option (List R
 hand_reads p None row v h = tt
 hand_reads p (Some rows) row v h = (rows, refl, h rows)
 
+-- one record, where reading stops: it is wrong by itself, or there was a fault from outside
+
+pub record_halts : {V : Type 0} (failed : Bool) (p : Part Row TextReason V) → Tells p → (left new : Option (List Row)) (row : Row) (start at : ℕ) (w : TextReason) → at ≡ start + 1 → TakesRecord left new row true → IsWrongRecord p row w
+    → Halts failed p left start at w
+record_halts failed p t None new row start at w e taken bad = tt
+record_halts failed p t (Some rows) new row start at w e taken bad =
+    let (more, first, then) = takes_some rows new row taken in (1, e, at_first p t rows, inr (subst (λ r. p.Wrong r 1 w) (sym first) (bad more)))
+
+pub outside_halts : {V : Type 0} (failed : Bool) (p : Part Row TextReason V) → Tells p → (left : Option (List Row)) (start at : ℕ) (w : TextReason) → at ≡ start + 1 → IsOutside failed w → Halts failed p left start at w
+outside_halts failed p t None start at w e o = tt
+outside_halts failed p t (Some rows) start at w e o = (1, e, at_first p t rows, inl o)
+
 -- two parts in turn, where reading stops
 
 pub first_halts : {V W : Type 0} (failed : Bool) (p : Part Row TextReason V) (q : V → Part Row TextReason W) (left : Option (List Row)) (start at : ℕ) (w : TextReason) → ((v : V) → p.Fits v → Tells (q v)) → Halts failed p left start at w
@@ -229,16 +242,16 @@ stopped_halts failed q x p reached (Some rows) start at last w s f =
       ],
     )
 
-pub lines_halt : {V : Type 0} (failed : Bool) (q : List V → Part Row TextReason V) (x : Repeats) (left : Option (List Row)) (start at last : ℕ) (w : TextReason) → ((s : List V) → Tells (q s)) → ((s : List V) → IsPlain (q s)) → HasRows q
+pub lines_halt : {V : Type 0} (failed : Bool) (q : List V → Part Row TextReason V) (x : Repeats) (left : Option (List Row)) (start at last : ℕ) (w : TextReason) → ((s : List V) → IsItem (q s))
     → IsStopped x q left start 0 at last → Fails failed (items_of x q) left start at w → Halts failed (items_of x q) left start at w
-lines_halt failed q x left start at last w t plain some =
-    stopped_halts failed q x (items_of x q) (λ rows place good. ended_reached x (beyond_of x) q q with_next t plain some t [] rows place good) left start at last w
+lines_halt failed q x left start at last w items =
+    stopped_halts failed q x (items_of x q) (λ rows place good. ended_reached x (beyond_of x) q q with_next items (λ s. (items s).tells) [] rows place good) left start at last w
 
 -- the same of items that something else may follow
-pub many_halt : {V : Type 0} (failed : Bool) (q : List V → Part Row TextReason V) (x : Repeats) (left : Option (List Row)) (start at last : ℕ) (w : TextReason) → ((s : List V) → Tells (q s)) → ((s : List V) → IsPlain (q s)) → HasRows q
+pub many_halt : {V : Type 0} (failed : Bool) (q : List V → Part Row TextReason V) (x : Repeats) (left : Option (List Row)) (start at last : ℕ) (w : TextReason) → ((s : List V) → IsItem (q s))
     → IsStopped x q left start 0 at last → Fails failed (repeated x q) left start at w → Halts failed (repeated x q) left start at w
-many_halt failed q x left start at last w t plain some =
-    stopped_halts failed q x (repeated x q) (λ rows place good. many_reached x q with_next t plain some [] rows place good) left start at last w
+many_halt failed q x left start at last w items =
+    stopped_halts failed q x (repeated x q) (λ rows place good. many_reached x q with_next items [] rows place good) left start at last w
 
 -- past the last record of a part that is spelled
 pub ends_halt : {V : Type 0} (failed : Bool) (p : Part Row TextReason V) (left : Option (List Row)) (v : V) (start at : ℕ) (w : TextReason) → Tells p → IfSome left (λ rows. Begins p rows v [])

@@ -29,16 +29,15 @@ use Rattle.blk_records.specs.declared.fault.TextReason.TheVariants as why
 use Rattle.text_grammar.specs.declared.Repeats.TheVariants as repeats
 use Rattle.text_grammar.specs.Parts.{Begins, Spells, AllFit, all_rows, over}
 use Rattle.text_grammar.specs.Laws.{Tells}
-use Rattle.text_grammar.specs.Inside.Laws.{Decides}
-use Rattle.text_grammar.proofs.Then.{then_tells, then_decides, tested_tells, tested_plain, tested_decides}
-use Rattle.text_grammar.proofs.Many.{HasRows, ended_tells, ended_decides}
+use Rattle.text_grammar.proofs.Then.{once, decided, then_tells, tested_tells, tested_plain}
+use Rattle.text_grammar.proofs.Many.{ended_tells}
 use Rattle.blk_records.proofs.Lists.{head_of, tail_of, all_cons}
 use Rattle.blk_records.proofs.Lacking.{same_number}
-use Rattle.blk_records.proofs.Each.{size_is, rows_map, one_version}
+use Rattle.blk_records.proofs.Each.{size_is, one_item, rows_map, one_version}
 use Rattle.blk_records.proofs.Reading.{then_reads, end_halts, first_halts, second_halts, many_fails, many_ends, full_ends, full_stopped, lines_halt, outside_fails, past_wrong, hand_reads}
-use Rattle.blk_records.proofs.TitleLaws.{is_schedule_title, title_tells, title_decides, title_reads, title_stops}
+use Rattle.blk_records.proofs.TitleLaws.{is_schedule_title, title_tells, title_reads, title_stops}
 use Rattle.blk_records.proofs.Texts.{text_back, parts_back, begins_itself}
-use Rattle.blk_records.proofs.ClaimLaws.{served_one, served_record_decides, firsts, seconds, all_zip, all_first, all_second, firsts_zip, seconds_zip, length_zip, zipped}
+use Rattle.blk_records.proofs.ClaimLaws.{served_one, firsts, seconds, all_zip, all_first, all_second, firsts_zip, seconds_zip, length_zip, zipped}
 
 -- one command
 
@@ -54,34 +53,23 @@ new_or_not (b ∷ before) s = elim (same_number b.0.id s.0.id) [
 
 pub new_one : (before : List (Command × ℕ)) → IsOne (new_record before)
 new_one before = record {
-  tells = tested_tells served_record (IsNew before) (IsRepeated before) served_one.tells (λ v k j w x fit a b. (a.0 ∙ sym b.0, a.1 ∙ sym b.1)) (λ v k w good a. a.2 good) (λ v k w a. (let one = a.0 in (omega (arith, one), omega (arith, one))));
+  tells = tested_tells (IsNew before) (IsRepeated before) served_one.tells (λ v k j w x fit a b. (a.0 ∙ sym b.0, a.1 ∙ sym b.1)) (λ v k w good a. a.2 good) (λ v k w a. (let one = a.0 in (omega (arith, one), omega (arith, one)))) (λ v fit. new_or_old v (new_or_not before v));
   plain = tested_plain served_record (IsNew before) (IsRepeated before) served_one.plain;
   one = λ v. refl;
 }
-
-new_decides : (before : List (Command × ℕ)) → Decides (new_record before)
-new_decides before = tested_decides served_record (IsNew before) (IsRepeated before) served_record_decides (λ v fit. elim (new_or_not before v) [
-  | inl good ↦ inl good
-  | inr bad ↦ inr (1, why.RepeatedId, (refl, refl, bad))
-])
+  where
+    new_or_old : (v : Command × ℕ) → IsNew before v ⊎ ¬ IsNew before v → IsNew before v ⊎ ((k : ℕ) × (w : TextReason) × IsRepeated before v k w)
+    new_or_old v (inl new) = inl new
+    new_or_old v (inr old) = inr (1, why.RepeatedId, (refl, refl, old))
 
 pub new_gone : (before : List (Command × ℕ)) → (new_record before).Wrong [] 1 why.Count
 new_gone before = inl (refl, refl)
 
-some_rows : HasRows new_record
-some_rows s v fit e = cc e
-
 body_tells : (count : ℕ) → Tells (schedule_body count)
-body_tells count = ended_tells (repeats.Exactly count) why.Count new_record new_record with_next (λ s. (new_one s).tells) (λ s. (new_one s).plain) some_rows (λ s. (new_one s).tells) []
-
-body_decides : (count : ℕ) → Decides (schedule_body count)
-body_decides count = ended_decides (repeats.Exactly count) why.Count new_record new_record with_next new_decides new_decides []
+body_tells count = ended_tells (repeats.Exactly count) why.Count with_next (λ s. one_item (new_one s)) (λ s. (new_one s).tells) []
 
 pub schedule_tells : Tells schedule_form
-schedule_tells = then_tells schedule_title (λ t. schedule_body t.1.1) (title_tells SCHEDULE counted_numbers (λ _. IsCounted) is_schedule_title) (λ t fit. body_tells t.1.1)
-
-schedule_decides : Decides schedule_form
-schedule_decides = then_decides schedule_title (λ t. schedule_body t.1.1) (title_decides SCHEDULE counted_numbers (λ _. IsCounted) is_schedule_title) (λ t fit. body_decides t.1.1)
+schedule_tells = then_tells (title_tells is_schedule_title) (λ t fit. body_tells t.1.1)
 
 -- the records of commands
 
@@ -164,7 +152,7 @@ same_schedule c d p q r i = record { depth = p i; commands = q i; rounds = r i }
 
 pub spelled_once : (rows : List Row) (c d : ScheduleView) → SpellsSchedule rows c → SpellsSchedule rows d → c ≡ d
 spelled_once rows c d s t =
-    let e = (schedule_tells.once rows (schedule_value c) (schedule_value d) [] [] s.1 t.1).0 in
+    let e = (once schedule_tells rows (schedule_value c) (schedule_value d) [] [] s.1 t.1).0 in
     let both : zip c.commands c.rounds ≡ zip d.commands d.rounds = λ i. (e i).1 in
     same_schedule c d (λ i. (e i).0.1.0)
     (sym (firsts_zip c.commands c.rounds s.0) ∙ ap (map (λ (k : Command × ℕ). k.0)) both ∙ firsts_zip d.commands d.rounds t.0)
@@ -204,7 +192,7 @@ schedule_spelled rows version depth count lines cs rs v n p q h =
     rw (p, q) (d ∙ sym c, subst (λ v. Spells schedule_form rows v) (λ i. ((one i, (depth, number i)), sym (zipped lines) i)) h)
 
 pub spelled_or_wrong : (rows : List Row) → ((c : ScheduleView) × SpellsSchedule rows c) ⊎ ((at : ℕ) × (w : TextReason) × ScheduleFault rows at w)
-spelled_or_wrong rows = elim (schedule_decides rows) [
+spelled_or_wrong rows = elim (decided schedule_tells rows) [
   | inl h ↦ (let f = h.2.fits in let t = h.0.0 in let lines = h.0.1 in
       inl (record { depth = t.1.0; commands = firsts lines; rounds = seconds lines }, schedule_spelled rows t.0 t.1.0 t.1.1 lines (firsts lines) (seconds lines) f.0.0 f.1.0.1 refl refl (rw h.2.follows.1.1 at h.2)))
   | inr f ↦ inr f
@@ -404,7 +392,7 @@ pub new_size : (count : ℕ) (left mid : Option (List Row)) (start at : ℕ) (vs
 new_size count left mid start at vs got = let e = got.3 in omega (arith, e, size_new vs)
 
 halted : (failed : Bool) (count : ℕ) (left : Option (List Row)) (start at last : ℕ) (w : TextReason) → IsStopped (repeats.Exactly count) new_record left start 0 at last → Fails failed (schedule_body count) left start at w → Halts failed (schedule_body count) left start at w
-halted failed count left start at last w = lines_halt failed new_record (repeats.Exactly count) left start at last w (λ s. (new_one s).tells) (λ s. (new_one s).plain) some_rows
+halted failed count left start at last w = lines_halt failed new_record (repeats.Exactly count) left start at last w (λ s. one_item (new_one s))
 
 pub new_halts : (failed : Bool) (count : ℕ) (left : Option (List Row)) (start at last : ℕ) (w : TextReason) → IsStopped (repeats.Exactly count) new_record left start 0 at last → Fails failed (repeated (repeats.Exactly count) new_record) left start at w
     → Halts failed (schedule_body count) left start at w
@@ -436,7 +424,7 @@ title_halts failed left at w e h =
     first_halts failed schedule_title (λ t. schedule_body t.1.1) left 0 at w (λ t fit. body_tells t.1.1) (title_stops SCHEDULE counted_numbers (λ _. IsCounted) is_schedule_title failed left 0 at w (omega (arith, e)) h)
 
 pub body_halts : (failed : Bool) (left mid : Option (List Row)) (t : ℕ × (ℕ × ℕ)) (middle at : ℕ) (w : TextReason) → middle ≡ 1 → Reads schedule_title left mid t → Halts failed (schedule_body t.1.1) mid middle at w → Halts failed schedule_form left 0 at w
-body_halts failed left mid t middle at w e r h = second_halts failed schedule_title (λ t. schedule_body t.1.1) left mid t 0 middle at w (title_tells SCHEDULE counted_numbers (λ _. IsCounted) is_schedule_title) r (omega (arith, e)) h
+body_halts failed left mid t middle at w e r h = second_halts failed schedule_title (λ t. schedule_body t.1.1) left mid t 0 middle at w (title_tells is_schedule_title) r (omega (arith, e)) h
 
 -- past the last record
 pub whole_halts : (failed : Bool) (left mid : Option (List Row)) (t : ℕ × (ℕ × ℕ)) (lines : List (Command × ℕ)) (at : ℕ) (w : TextReason) → Reads schedule_title left mid t → IfSome mid (λ rows. Begins (schedule_body t.1.1) rows lines [])

@@ -17,8 +17,8 @@ use Rattle.blk_records.proofs.Lists.{cons_same}
 use Rattle.blk_records.proofs.Lacking.{Good, Goods, sized_once, lacks_once, goods_lack, goods_or_lacks, no_word_once, no_word_lacks, word_decided, starts_same, word_once}
 use Rattle.text_grammar.specs.Parts.{Part, NextWrong}
 use Rattle.text_grammar.specs.Laws.{Tells}
-use Rattle.text_grammar.specs.Inside.Laws.{TellsRecord, Decides, DecidesRecord}
-use Rattle.text_grammar.proofs.Then.{record_tells, record_decides, by_word_tells, by_word_decides}
+use Rattle.text_grammar.specs.Inside.Laws.{TellsRecord}
+use Rattle.text_grammar.proofs.Then.{record_tells, by_word_tells}
 use Rattle.blk_records.specs.Tables.{Cell, Blank, Direction, Number, Signed, Text, Nanoseconds, cell_slot, field_of, row_by, slots_by, FitsCell, FitsCells, IsUpTo, table_record, word_record, kinds_record}
 
 -- what a field tells of a value
@@ -169,18 +169,16 @@ by_table cells Fits t row g =
 pub one_by : {V : Type 0} (cells : List (Cell V)) (Fits : V → Type 0) → IsTable cells Fits → (v u : V) → Fits v → Fits u → row_by cells v ≡ row_by cells u → v ≡ u
 one_by cells Fits t v u f g e = sym (t.back v f) ∙ ap t.made (same_by cells v u t.sized (t.within v f) (t.within u g) e) ∙ t.back u g
 
-pub table_tells : {V : Type 0} (cells : List (Cell V)) (Fits : V → Type 0) → IsTable cells Fits → TellsRecord (row_by cells) Fits (Lacks (slots_by cells))
-table_tells cells Fits t = record {
+pub table_tells : {V : Type 0} {cells : List (Cell V)} {Fits : V → Type 0} → IsTable cells Fits → TellsRecord (row_by cells) Fits (Lacks (slots_by cells))
+table_tells {V} {cells} {Fits} t = record {
   once = one_by cells Fits t;
   apart = λ v w f bad. goods_lack (slots_by cells) (row_by cells v) w (goods_by cells v t.sized (t.within v f)) bad;
   first = lacks_once (slots_by cells);
+  decided = λ row. elim (goods_or_lacks (slots_by cells) row) [
+    | inl g ↦ inl (by_table cells Fits t row g)
+    | inr w ↦ inr w
+  ];
 }
-
-pub table_decides : {V : Type 0} (cells : List (Cell V)) (Fits : V → Type 0) → IsTable cells Fits → DecidesRecord (row_by cells) Fits (Lacks (slots_by cells))
-table_decides cells Fits t row = elim (goods_or_lacks (slots_by cells) row) [
-  | inl g ↦ inl (by_table cells Fits t row g)
-  | inr w ↦ inr w
-]
 
 -- words
 
@@ -194,23 +192,18 @@ begins (f ∷ more) word l h = (more, ap (λ (g : List ℕ). g ∷ more) h)
 pub given_goods : {V : Type 0} (f : List ℕ) (cells : List (Cell V)) (v : V) → Sized cells → FitsCells cells v → Goods (slot.Given ∷ slots_by cells) (f ∷ row_by cells v)
 given_goods f cells v s k = ((tt, tt, tt, tt), goods_by cells v s k)
 
-pub word_tells : {V : Type 0} (word : List ℕ) (cells : List (Cell V)) (Fits : V → Type 0) → IsTable cells Fits → TellsRecord (λ v. word ∷ row_by cells v) Fits (WordLacks word (slots_by cells))
-word_tells {V} word cells Fits t = record {
+pub word_tells : {V : Type 0} (word : List ℕ) {cells : List (Cell V)} {Fits : V → Type 0} → IsTable cells Fits → TellsRecord (λ v. word ∷ row_by cells v) Fits (WordLacks word (slots_by cells))
+word_tells {V} word {cells} {Fits} t = record {
   once = λ v u f g e. one_by cells Fits t v u f g (cons_same _ _ _ _ e).1;
   apart = apart;
   first = word_once word (slots_by cells);
+  decided = decided;
 }
   where
     apart : (v : V) (w : TextReason) → Fits v → WordLacks word (slots_by cells) (word ∷ row_by cells v) w → ⊥
     apart v w f (inl bad) = goods_lack (slot.Given ∷ slots_by cells) (word ∷ row_by cells v) w (given_goods word cells v t.sized (t.within v f)) bad.1
     apart v w f (inr bad) = bad.0 (row_by cells v, refl)
 
-pub word_decides : {V : Type 0} (word : List ℕ) (cells : List (Cell V)) (Fits : V → Type 0) → IsTable cells Fits → DecidesRecord (λ v. word ∷ row_by cells v) Fits (WordLacks word (slots_by cells))
-word_decides {V} word cells Fits t row = elim (word_decided word row) [
-  | inl s ↦ starts row s (goods_or_lacks (slot.Given ∷ slots_by cells) row)
-  | inr n ↦ (let w = no_word_lacks (length (slots_by cells) + 1) row in inr (w.0, inr (n, w.1)))
-]
-  where
     starts : (row : Row) → StartsWith word row → Goods (slot.Given ∷ slots_by cells) row ⊎ ((w : TextReason) × Lacks (slot.Given ∷ slots_by cells) row w)
         → ((v : V) × Fits v × (row ≡ word ∷ row_by cells v)) ⊎ ((w : TextReason) × WordLacks word (slots_by cells) row w)
     starts row s (inr bad) = inr (bad.0, inl (s, bad.1))
@@ -221,24 +214,28 @@ word_decides {V} word cells Fits t row = elim (word_decided word row) [
         let others = v.2 in
         inl (v.0, v.1, cc (first, others))
 
+    decided : (row : Row) → ((v : V) × Fits v × (row ≡ word ∷ row_by cells v)) ⊎ ((w : TextReason) × WordLacks word (slots_by cells) row w)
+    decided row = elim (word_decided word row) [
+      | inl s ↦ starts row s (goods_or_lacks (slot.Given ∷ slots_by cells) row)
+      | inr n ↦ (let w = no_word_lacks (length (slots_by cells) + 1) row in inr (w.0, inr (n, w.1)))
+    ]
+
 -- kinds
 
 abbrev Kinds : {K : Type 0} → (V : K → Type 0) → (K → Type 0) → ((k : K) → List (Cell (V k))) → Type 0
 Kinds {K} V Stands cells = (k : K) → Stands k → IsTable (cells k) (FitsCells (cells k))
 
--- a record of a word that stands in the form, whose fields are a table where it does
-standing_tells : {V : Type 0} (A : Type 0) (word : List ℕ) (cells : List (Cell V)) → (A → IsTable cells (FitsCells cells)) → TellsRecord (λ v. word ∷ row_by cells v) (λ v. A × FitsCells cells v) (WordLacks word (slots_by cells))
-standing_tells A word cells t = record {
-  once = λ v u f g e. (word_tells word cells (FitsCells cells) (t f.0)).once v u f.1 g.1 e;
-  apart = λ v w f bad. (word_tells word cells (FitsCells cells) (t f.0)).apart v w f.1 bad;
-  first = word_once word (slots_by cells);
+-- a record that stands in the form
+standing_tells : {V A : Type 0} {row_of : V → Row} {Fits : V → Type 0} {Bad : Row → TextReason → Type 0} → A → TellsRecord row_of Fits Bad → TellsRecord row_of (λ v. A × Fits v) Bad
+standing_tells a t = record {
+  once = λ v u f g e. t.once v u f.1 g.1 e;
+  apart = λ v w f bad. t.apart v w f.1 bad;
+  first = t.first;
+  decided = λ row. elim (t.decided row) [
+    | inl h ↦ inl (h.0, (a, h.1), h.2)
+    | inr w ↦ inr w
+  ];
 }
-
-standing_decides : {V : Type 0} (A : Type 0) (row_of : V → Row) (Fits : V → Type 0) (Bad : Row → TextReason → Type 0) → A → DecidesRecord row_of Fits Bad → DecidesRecord row_of (λ v. A × Fits v) Bad
-standing_decides A row_of Fits Bad a d row = elim (d row) [
-  | inl h ↦ inl (h.0, (a, h.1), h.2)
-  | inr w ↦ inr w
-]
 
 pub next_starts : (word : List ℕ) (row : Row) (rows others : List Row) → rows ≡ (word ∷ row) ∷ others → NextStarts word rows
 next_starts word row [] others e = absurd (cc e)
@@ -257,20 +254,12 @@ abbrev kind_record : {V : Type 0} → Type 0 → TextReason → List ℕ → Lis
 kind_record Stands gone word cells = word_record gone word cells (λ v. Stands × FitsCells cells v)
 
 pub kinds_tell : {K : Type 0} (V : K → Type 0) (gone : TextReason) (width : ℕ) (Stands : K → Type 0) (word_of : K → List ℕ) (cells : (k : K) → List (Cell (V k))) → ((j k : K) → Stands j → Stands k → word_of j ≡ word_of k → j ≡ k)
-    → Kinds V Stands cells → Tells (kinds_record V gone width Stands word_of cells)
-kinds_tell {K} V gone width Stands word_of cells one tables =
-    by_word_tells V (λ k rows. Stands k × NextStarts (word_of k) rows) (λ k. kind_record (Stands k) gone (word_of k) (cells k)) (NextWrong gone (HasNoWord width))
-    (λ k. record_tells (λ v. word_of k ∷ row_by (cells k) v) (λ v. Stands k × FitsCells (cells k) v) gone (WordLacks (word_of k) (slots_by (cells k)))
-    (standing_tells (Stands k) (word_of k) (cells k) (tables k)))
-    (λ j k rows s t. one j k s.0 t.0 (next_same (word_of j) (word_of k) rows s.1 t.1)) (λ k rows v a h. (h.fits.0, next_starts (word_of k) (row_by (cells k) v) rows a h.made)) (next_once gone width)
-
-pub kinds_decide : {K : Type 0} (V : K → Type 0) (gone : TextReason) (width : ℕ) (Stands : K → Type 0) (word_of : K → List ℕ) (cells : (k : K) → List (Cell (V k)))
     → ((f : List ℕ) → ((k : K) × Stands k × (f ≡ word_of k)) ⊎ ((k : K) → Stands k → ¬ (f ≡ word_of k)))
-    → Kinds V Stands cells → Decides (kinds_record V gone width Stands word_of cells)
-kinds_decide {K} V gone width Stands word_of cells pick tables =
-    by_word_decides V (λ k rows. Stands k × NextStarts (word_of k) rows) (λ k. kind_record (Stands k) gone (word_of k) (cells k)) (NextWrong gone (HasNoWord width))
-    (λ k rows s. record_decides (λ v. word_of k ∷ row_by (cells k) v) (λ v. Stands k × FitsCells (cells k) v) gone (WordLacks (word_of k) (slots_by (cells k)))
-    (standing_decides (Stands k) (λ v. word_of k ∷ row_by (cells k) v) (FitsCells (cells k)) (WordLacks (word_of k) (slots_by (cells k))) s.0 (word_decides (word_of k) (cells k) (FitsCells (cells k)) (tables k s.0))) rows) find
+    → Kinds V Stands cells → Tells (kinds_record V gone width Stands word_of cells)
+kinds_tell {K} V gone width Stands word_of cells one pick tables =
+    by_word_tells V (λ k rows. Stands k × NextStarts (word_of k) rows) (λ k. kind_record (Stands k) gone (word_of k) (cells k)) (NextWrong gone (HasNoWord width))
+    (λ k rows s. (record_tells gone (standing_tells s.0 (word_tells (word_of k) (tables k s.0)))).told rows)
+    (λ j k rows s t. one j k s.0 t.0 (next_same (word_of j) (word_of k) rows s.1 t.1)) (λ k rows v a h. (h.fits.0, next_starts (word_of k) (row_by (cells k) v) rows a h.made)) (next_once gone width) find
   where
     find : (rows : List Row) → ((k : K) × (Stands k × NextStarts (word_of k) rows)) ⊎ (((k : K) → ¬ (Stands k × NextStarts (word_of k) rows)) × ((w : TextReason) × NextWrong gone (HasNoWord width) rows w))
     find [] = inr ((λ k s. s.1), (gone, refl))

@@ -16,8 +16,7 @@ use Rattle.blk_records.specs.declared.schedule.TheConstants.{SCHEDULE}
 use Rattle.blk_records.specs.declared.titles.TitleRow.{TitleRow}
 use Rattle.blk_records.specs.declared.titles.TheConstants.{COUNTED}
 use Rattle.text_grammar.specs.Laws.{Tells}
-use Rattle.text_grammar.specs.Inside.Laws.{Decides}
-use Rattle.text_grammar.proofs.Then.{record_tells, record_decides, at_first}
+use Rattle.text_grammar.proofs.Then.{record_tells, at_first}
 use Rattle.blk_records.proofs.Lists.{cons_same}
 use Rattle.blk_records.proofs.Lacking.{Goods, Dec, both, same_as, at_most, same_text, number_decided, lacks_once, goods_lack, goods_or_lacks}
 use Rattle.blk_records.proofs.Reading.{line_reads}
@@ -56,11 +55,12 @@ title_first title l row w x (inr a) (inr b) =
     let same = same_version title.word title.latest a.0 b.0 row l a.1 b.1 a.2 b.2 in
     lacks_once (slots_in title b.0) row w x (subst (λ v. Lacks (slots_in title v) row w) same a.3) b.3
 
-pub title_tells : {letters fields : ℕ} {V : Type 0} (title : TitleRow letters fields) (numbers : List (V → ℕ)) (Fits : ℕ → V → Type 0) → IsTitleTable title numbers Fits → Tells (title_record title numbers Fits)
-title_tells {letters} {fields} {V} title numbers Fits is = record_tells (title_by title numbers) (λ t. IsVersion title.latest t.0 × Fits t.0 t.1) why.Title (TitleLacks title) (record {
+pub title_tells : {letters fields : ℕ} {V : Type 0} {title : TitleRow letters fields} {numbers : List (V → ℕ)} {Fits : ℕ → V → Type 0} → IsTitleTable title numbers Fits → Tells (title_record title numbers Fits)
+title_tells {letters} {fields} {V} {title} {numbers} {Fits} is = record_tells why.Title (record {
   once = λ t u f g e. same t u f g e (same_version title.word title.latest t.0 u.0 (title_by title numbers u) is.latest f.0 g.0 (row_by (title_cells title numbers t.0) t.1, sym e) (row_by (title_cells title numbers u.0) u.1, refl));
   apart = title_apart title numbers Fits is;
   first = title_first title is.latest;
+  decided = λ row. decided row (titled row);
 })
   where
     same : (t u : ℕ × V) → IsVersion title.latest t.0 × Fits t.0 t.1 → IsVersion title.latest u.0 × Fits u.0 u.1 → title_by title numbers t ≡ title_by title numbers u → t.0 ≡ u.0 → t ≡ u
@@ -68,9 +68,6 @@ title_tells {letters} {fields} {V} title numbers Fits is = record_tells (title_b
         let value = one_by (title_cells title numbers u.0) (Fits u.0) (is.table u.0) t.1 u.1 (rw e at f.1) g.1 (rw e at (cons_same _ _ _ _ (cons_same _ _ _ _ h).1).1) in
         λ i. (e i, value i)
 
-pub title_decides : {letters fields : ℕ} {V : Type 0} (title : TitleRow letters fields) (numbers : List (V → ℕ)) (Fits : ℕ → V → Type 0) → IsTitleTable title numbers Fits → Decides (title_record title numbers Fits)
-title_decides {letters} {fields} {V} title numbers Fits is = record_decides (title_by title numbers) (λ t. IsVersion title.latest t.0 × Fits t.0 t.1) why.Title (TitleLacks title) (λ row. decided row (titled row))
-  where
     titled : (row : Row) → Dec ((version : ℕ) × IsVersion title.latest version × IsTitled title.word version row)
     titled [] = inr (λ t. (let e : [] ≡ title.word ∷ decimal t.0 ∷ t.2.0 = t.2.1 in cc e))
     titled (f ∷ []) = inr (λ t. (let e : [] ≡ decimal t.0 ∷ t.2.0 = (cons_same _ _ _ _ t.2.1).1 in cc e))
@@ -136,7 +133,7 @@ title_stops title numbers Fits is failed None start at w e h = tt
 title_stops title numbers Fits is failed (Some rows) start at w e h = (
   1,
   e,
-  at_first (title_record title numbers Fits) (title_tells title numbers Fits is) rows,
+  at_first (title_record title numbers Fits) (title_tells is) rows,
   elim h [
     | inl o ↦ inl o
     | inr f ↦ inr (refl, f)

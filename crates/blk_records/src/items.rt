@@ -33,6 +33,7 @@ pub trait RecordForm {
 }
 
 /// What the next record tells.
+#[tactic(auto, using(text_grammar::proofs::Then::at_first))]
 pub fn read_record<R: Read + Drop, F: RecordForm>(
     records: &mut Records<R>,
     form: &F,
@@ -47,8 +48,10 @@ pub fn read_record<R: Read + Drop, F: RecordForm>(
     ensures err { IfErr result (λ f. Halts records.new.failed (F.part form.now) records.old.left records.old.at f.at f.why) }
 {
     let gone = form.gone();
-    if !records.advance()? {
-        return Err(records.fault(gone));
+    match records.advance() {
+        Ok(true) => {}
+        Ok(false) => return Err(records.fault(gone)),
+        Err(fault) => return Err(fault),
     }
     match form.value(records.row()) {
         Ok(value) => Ok(value),

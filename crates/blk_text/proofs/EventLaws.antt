@@ -26,15 +26,15 @@ use Rattle.blk_text.specs.declared.heads.TheConstants.{TRACE}
 use Rattle.text_grammar.specs.declared.Repeats.TheVariants as repeats
 use Rattle.text_grammar.specs.Parts.{Part, Begins}
 use Rattle.text_grammar.specs.Parts.{then as in_turn}
-use Rattle.text_grammar.specs.Laws.{Tells, IsPlain}
-use Rattle.text_grammar.specs.Inside.Laws.{Decides}
-use Rattle.text_grammar.proofs.Then.{seen_tells, seen_decides, then_tells, then_decides, tested_tells, tested_decides, both_begin}
-use Rattle.text_grammar.proofs.Many.{HasRows, ended_tells, ended_decides}
+use Rattle.text_grammar.specs.Laws.{Tells}
+use Rattle.text_grammar.specs.Inside.Laws.{IsItem}
+use Rattle.text_grammar.proofs.Then.{seen_tells, then_tells, tested_tells, both_begin}
+use Rattle.text_grammar.proofs.Many.{ended_tells}
 use Rattle.blk_records.proofs.Reading.{many_fails, many_ends, full_ends, past_wrong, full_stopped}
-use Rattle.blk_records.proofs.TitleLaws.{IsTitleTable, title_tells, title_decides, title_reads}
-use Rattle.blk_text.proofs.ScriptLaws.{fewer_tags, tags_are, setup_one, setup_decides}
-use Rattle.blk_text.proofs.HeadLaws.{head_tells, head_decides, head_gone}
-use Rattle.blk_text.proofs.GroupLaws.{group_tells, group_decides, group_size}
+use Rattle.blk_records.proofs.TitleLaws.{IsTitleTable, title_tells, title_reads}
+use Rattle.blk_text.proofs.ScriptLaws.{fewer_tags, tags_are, setup_one}
+use Rattle.blk_text.proofs.HeadLaws.{head_tells, head_gone}
+use Rattle.blk_text.proofs.GroupLaws.{group_tells, group_size}
 use Rattle.blk_text.proofs.RuleLaws.{rule_at, rule_is, unbroken_or_first}
 use Rattle.blk_bio.specs.declared.limits.TheConstants.{MAX_SEGMENTS}
 
@@ -53,10 +53,6 @@ none : (bios : List Bio) → length bios ≡ 0 → [] ≡ bios
 none [] e = refl
 none (b ∷ bs) e = absurd (omega (arith, e))
 
-pub plain_tells : (version : ℕ) (limits : Limits) → Tells (plain_event version limits)
-plain_tells version limits = seen_tells event_told (in_turn (first_record version) (λ h. group version limits (bios_after h))) (λ e f same. sym (back_is e) ∙ ap back same ∙ back_is f)
-    (then_tells (first_record version) (λ h. group version limits (bios_after h)) (head_tells version) (λ h fit. group_tells version limits (bios_after h)))
-
 -- the first record and the bios of an event
 told_back : (h : Head) (bios : List Bio) → length bios ≡ bios_after h → event_told (back (h, bios)) ≡ (h, bios)
 unfolding back
@@ -64,9 +60,9 @@ told_back (head.Release id count) bios e = ap (λ n. (head.Release id n, bios)) 
 told_back (head.Join id count) bios e = ap (λ n. (head.Join id n, bios)) e
 told_back h bios e = ap (λ l. (h, l)) (none bios e)
 
-plain_decides : (version : ℕ) (limits : Limits) → Decides (plain_event version limits)
-plain_decides version limits = seen_decides event_told (in_turn (first_record version) (λ h. group version limits (bios_after h))) (λ v f. (back v, told_back v.0 v.1 f.1.1))
-    (then_decides (first_record version) (λ h. group version limits (bios_after h)) (head_decides version) (λ h fit. group_decides version limits (bios_after h)))
+pub plain_tells : (version : ℕ) (limits : Limits) → Tells (plain_event version limits)
+plain_tells version limits = seen_tells event_told (λ e f same. sym (back_is e) ∙ ap back same ∙ back_is f) (λ v f. (back v, told_back v.0 v.1 f.1.1))
+    (then_tells {q = λ h. group version limits (bios_after h)} (head_tells version) (λ h fit. group_tells version limits (bios_after h)))
 
 -- rules
 
@@ -84,26 +80,21 @@ one_rule setup before e r s f g = by_cases (three (rank r) (rank s))
 breaks_once : (setup : Setup) (before : List Happened) (e : Happened) (k j : ℕ) (w x : TextReason) → BreaksRule setup before e k w → BreaksRule setup before e j x → (k ≡ j) × (w ≡ x)
 breaks_once setup before e k j w x f g = (f.0 ∙ sym g.0, f.1.1 ∙ ap why.Rule (one_rule setup before e f.1.0 g.1.0 f.1.2 g.1.2) ∙ sym g.1.1)
 
-pub event_tells : (version : ℕ) (setup : Setup) (before : List Happened) → Tells (event version setup before)
-event_tells version setup before = tested_tells (plain_event version setup.limits) (BreaksNoRule setup before) (BreaksRule setup before) (plain_tells version setup.limits)
-    (λ e k j w x fit f g. breaks_once setup before e k j w x f g)
-    (λ e k w good f. f.1.2.broken (good f.1.0))
-    (λ e k w f. (let is = f.0 in (omega (arith, is), omega (arith, is))))
+broken_or_not : (setup : Setup) (before : List Happened) (e : Happened) → BreaksNoRule setup before e ⊎ ((k : ℕ) × (w : TextReason) × BreaksRule setup before e k w)
+broken_or_not setup before e = elim (unbroken_or_first setup before e) [
+  | inl u ↦ inl u
+  | inr b ↦ inr (1, why.Rule b.0, (refl, (b.0, refl, b.1)))
+]
 
-event_decides : (version : ℕ) (setup : Setup) (before : List Happened) → Decides (event version setup before)
-event_decides version setup before = tested_decides (plain_event version setup.limits) (BreaksNoRule setup before) (BreaksRule setup before) (plain_decides version setup.limits) (λ e fit. broken_or_not setup before e)
-  where
-    broken_or_not : (setup : Setup) (before : List Happened) (e : Happened) → BreaksNoRule setup before e ⊎ ((k : ℕ) × (w : TextReason) × BreaksRule setup before e k w)
-    broken_or_not setup before e = elim (unbroken_or_first setup before e) [
-      | inl u ↦ inl u
-      | inr b ↦ inr (1, why.Rule b.0, (refl, (b.0, refl, b.1)))
-    ]
-
-pub event_plain : (version : ℕ) (setup : Setup) (before : List Happened) → IsPlain (event version setup before)
-event_plain version setup before e rest fit = (tt, fit.0.1.1)
-
-pub event_rows : (version : ℕ) (setup : Setup) → HasRows {S = List Happened} (event version setup)
-event_rows version setup s e fit z = cc z
+pub event_item : (version : ℕ) (setup : Setup) (before : List Happened) → IsItem (event version setup before)
+event_item version setup before = record {
+  tells = tested_tells (BreaksNoRule setup before) (BreaksRule setup before) (plain_tells version setup.limits)
+      (λ e k j w x fit f g. breaks_once setup before e k j w x f g)
+      (λ e k w good f. f.1.2.broken (good f.1.0))
+      (λ e k w f. (let is = f.0 in (omega (arith, is), omega (arith, is)))) (λ e fit. broken_or_not setup before e);
+  plain = λ e rest fit. (tt, fit.0.1.1);
+  some = λ e fit z. (cc z);
+}
 
 -- one event more
 
@@ -115,28 +106,20 @@ alone_good setup before o e good is = rw is at good
 
 pub more_tells : (version : ℕ) (setup : Setup) (before : List Happened) → Tells (one_more version setup before)
 more_tells version setup before =
-    tested_tells (first_record version) (λ h. IfSome (alone h) (BreaksNoRule setup before)) (λ h k w. (e : Happened) × (alone h ≡ Some e) × BreaksRule setup before e k w) (head_tells version)
+    tested_tells (λ h. IfSome (alone h) (BreaksNoRule setup before)) (λ h k w. (e : Happened) × (alone h ≡ Some e) × BreaksRule setup before e k w) (head_tells version)
     (λ h k j w x fit f g. (let same = some_same f.0 g.0 (sym f.1 ∙ g.1) in breaks_once setup before g.0 k j w x (rw same at f.2) g.2))
     (λ h k w good f. f.2.1.2.broken (alone_good setup before (alone h) f.0 good f.1 f.2.1.0))
-    (λ h k w f. (let is = f.2.0 in (omega (arith, is), omega (arith, is))))
-
-more_decides : (version : ℕ) (setup : Setup) (before : List Happened) → Decides (one_more version setup before)
-more_decides version setup before =
-    tested_decides (first_record version) (λ h. IfSome (alone h) (BreaksNoRule setup before)) (λ h k w. (e : Happened) × (alone h ≡ Some e) × BreaksRule setup before e k w) (head_decides version) (λ h fit. decided (alone h))
+    (λ h k w f. (let is = f.2.0 in (omega (arith, is), omega (arith, is)))) (λ h fit. decided (alone h))
   where
     decided : (o : Option Happened) → IfSome o (BreaksNoRule setup before) ⊎ ((k : ℕ) × (w : TextReason) × ((e : Happened) × (o ≡ Some e) × BreaksRule setup before e k w))
     decided None = inl tt
-    decided (Some e) = elim (unbroken_or_first setup before e) [
+    decided (Some e) = elim (broken_or_not setup before e) [
       | inl u ↦ inl u
-      | inr b ↦ inr (1, why.Rule b.0, (e, refl, (refl, (b.0, refl, b.1))))
+      | inr b ↦ inr (b.0, b.1, (e, refl, b.2))
     ]
 
 pub events_tell : (version : ℕ) (setup : Setup) (count : ℕ) → Tells (events_of version setup count)
-events_tell version setup count =
-    ended_tells (repeats.Exactly count) why.Count (event version setup) (one_more version setup) with_next (event_tells version setup) (event_plain version setup) (event_rows version setup) (more_tells version setup) []
-
-events_decide : (version : ℕ) (setup : Setup) (count : ℕ) → Decides (events_of version setup count)
-events_decide version setup count = ended_decides (repeats.Exactly count) why.Count (event version setup) (one_more version setup) with_next (event_decides version setup) (more_decides version setup) []
+events_tell version setup count = ended_tells (repeats.Exactly count) why.Count with_next (event_item version setup) (more_tells version setup) []
 
 pub event_gone : (version : ℕ) (setup : Setup) (before : List Happened) → (event version setup before).Wrong [] 1 why.Count
 event_gone version setup before = inl (inl (head_gone version))
@@ -162,7 +145,7 @@ title_table = record {
 }
 
 pub trace_title_tells : Tells trace_title_part
-trace_title_tells = title_tells TRACE trace_numbers IsTraceTitle title_table
+trace_title_tells = title_tells title_table
 
 -- the title that a record tells by its numbers
 abbrev pub title_at : List ℕ → TraceTitle
@@ -176,14 +159,10 @@ pub setup_depth : (t : ℕ × TraceTitle) → IsTraceTitle t.0 t.1 → (0 < t.1.
 setup_depth t i = let high = i.depth.1 in (i.depth.0, omega (arith, high, fewer_tags t.0))
 
 pub body_tells : (t : ℕ × TraceTitle) → IsTraceTitle t.0 t.1 → Tells (trace_body t)
-body_tells t i = then_tells (setup t.1.depth t.1.hw) (λ s. events_of t.0 s t.1.count) (setup_one t.1.depth t.1.hw (setup_depth t i) i.hw).tells (λ s fit. events_tell t.0 s t.1.count)
+body_tells t i = then_tells (setup_one t.1.depth t.1.hw (setup_depth t i) i.hw).tells (λ s fit. events_tell t.0 s t.1.count)
 
 pub trace_tells : Tells trace_form
-trace_tells = then_tells trace_title_part trace_body trace_title_tells (λ t fit. body_tells t fit.1)
-
-pub trace_decides : Decides trace_form
-trace_decides = then_decides trace_title_part trace_body (title_decides TRACE trace_numbers IsTraceTitle title_table) (λ t fit. (let i = fit.1 in
-    then_decides (setup t.1.depth t.1.hw) (λ s. events_of t.0 s t.1.count) (setup_decides t.1.depth t.1.hw (setup_depth t i) i.hw) (λ s fit. events_decide t.0 s t.1.count)))
+trace_tells = then_tells trace_title_tells (λ t fit. body_tells t fit.1)
 
 -- what was read of an event
 

@@ -8,25 +8,25 @@ use Rattle.blk_bio.specs.declared.request.Side.TheVariants as side
 use Rattle.blk_records.specs.Sources.{Row}
 use Rattle.blk_text.specs.BioTable.{bio_cells, IsNoSuchBio}
 use Rattle.blk_text.specs.Inside.BioTable.{bio_record}
-use Rattle.blk_records.specs.Words.{StartsWith, NextStarts, WordLacks}
+use Rattle.blk_records.specs.Words.{StartsWith, NextStarts}
 use Rattle.blk_records.specs.Reads.{IsRowOf, IsWrongRecord, HandFails, Gathers, with_next}
-use Rattle.blk_records.specs.Tables.{FitsCells, row_by, slots_by, word_record}
+use Rattle.blk_records.specs.Tables.{FitsCells, row_by, word_record}
 use Rattle.blk_text.specs.TraceForm.{Tiles, IsAstray, IsNoBio, first_record, plain_bio, whole_bio, group_bio, group}
 use Rattle.blk_text.specs.Inside.TraceForm.{gathered_bios}
 use Rattle.blk_records.specs.declared.fault.TextReason.{TextReason}
 use Rattle.blk_records.specs.declared.fault.TextReason.TheVariants as why
 use Rattle.blk_text.specs.TraceForm.{Head}
 use Rattle.text_grammar.specs.declared.Repeats.TheVariants as repeats
-use Rattle.text_grammar.specs.Parts.{Part, by_word, all_rows}
+use Rattle.text_grammar.specs.Parts.{Part, all_rows}
 use Rattle.text_grammar.specs.Laws.{Tells}
-use Rattle.text_grammar.specs.Inside.Laws.{Decides}
-use Rattle.text_grammar.proofs.Then.{record_tells, record_decides, by_word_tells, by_word_decides, seen_tells, seen_decides, tested_tells, tested_decides, over_tells}
-use Rattle.text_grammar.proofs.Many.{HasRows, many_tells, many_decides}
+use Rattle.text_grammar.specs.Inside.Laws.{IsItem}
+use Rattle.text_grammar.proofs.Then.{first, decided, record_tells, by_word_tells, seen_tells, tested_tells, over_tells}
+use Rattle.text_grammar.proofs.Many.{many_tells}
 use Rattle.blk_records.proofs.Lacking.{Dec, word_decided}
-use Rattle.blk_records.proofs.TableLaws.{IsTable, next_starts, word_tells, word_decides}
+use Rattle.blk_records.proofs.TableLaws.{IsTable, next_starts, word_tells}
 use Rattle.blk_text.proofs.ScriptLaws.{no_bio_is, one_bio_fault, bio_or_none}
 use Rattle.blk_records.proofs.Reading.{hand_reads}
-use Rattle.blk_text.proofs.HeadLaws.{head_tells, head_decides}
+use Rattle.blk_text.proofs.HeadLaws.{head_tells}
 use Rattle.blk_text.proofs.RuleLaws.{fits as fits_decided}
 
 bio_table : (submitters : ℕ) → submitters ≤ 2 ^ 8 → IsTable (bio_cells submitters) (FitsCells (bio_cells submitters))
@@ -41,23 +41,14 @@ bio_table submitters s = record {
 
 no_bio_once : (version : ℕ) (rows : List Row) (w x : TextReason) → IsNoBio version rows w → IsNoBio version rows x → w ≡ x
 no_bio_once version [] w x a b = a ∙ sym b
-no_bio_once version (row ∷ rows) w x a b = ((over_tells why.Count (first_record version) (head_tells version)).first (row ∷ []) 1 1 w x a b).1
+no_bio_once version (row ∷ rows) w x a b = (first (over_tells why.Count (head_tells version)) (row ∷ []) 1 1 w x a b).1
 
 abbrev bio_by_table : Part Row TextReason Bio
 bio_by_table = word_record why.Count (codes "bio") (bio_cells (2 ^ 8)) (FitsCells (bio_cells (2 ^ 8)))
 
-abbrev only_bios : ℕ → Part Row TextReason ((i : Unit {0}) × Bio)
-only_bios version = by_word {K = Unit {0}} (λ _. Bio) (λ _. NextStarts (codes "bio")) (λ _. bio_by_table) (IsNoBio version)
-
-plain_tells : (version : ℕ) → Tells (plain_bio version)
-plain_tells version = seen_tells (λ b. (tt, b)) (only_bios version) (λ u z e. (let r : u ≡ z = (λ i. (e i).1) in r))
-    (by_word_tells {K = Unit {0}} (λ _. Bio) (λ _. NextStarts (codes "bio")) (λ _. bio_by_table) (IsNoBio version)
-    (λ _. record_tells (λ b. codes "bio" ∷ row_by (bio_cells (2 ^ 8)) b) (FitsCells (bio_cells (2 ^ 8))) why.Count (WordLacks (codes "bio") (slots_by (bio_cells (2 ^ 8)))) (word_tells (codes "bio") (bio_cells (2 ^ 8)) (FitsCells (bio_cells (2 ^ 8))) (bio_table 256 (omega arith))))
-    (λ i j rows s t. refl) (λ i rows v a h. next_starts (codes "bio") (row_by (bio_cells (2 ^ 8)) v) rows a h.made) (no_bio_once version))
-
 -- what is wrong with a record that does not begin as a bio's
 no_bio : (version : ℕ) (row : Row) → (w : TextReason) × IsNoBio version (row ∷ []) w
-no_bio version row = elim (head_decides version (row ∷ [])) [
+no_bio version row = elim (decided (head_tells version) (row ∷ [])) [
   | inl h ↦ (why.Count, ((λ e. (cc e)), inr (refl, refl, h)))
   | inr f ↦ (f.1, ((λ e. (cc e)), inl (subst (λ k. (first_record version).Wrong (row ∷ []) k f.1) (at_one f.0 f.1 f.2) f.2)))
 ]
@@ -66,11 +57,10 @@ no_bio version row = elim (head_decides version (row ∷ [])) [
     at_one k w (inl f) = f.2.0
     at_one k w (inr f) = f.0
 
-plain_decides : (version : ℕ) → Decides (plain_bio version)
-plain_decides version = seen_decides (λ b. (tt, b)) (only_bios version) (λ v f. (v.1, refl))
-    (by_word_decides {K = Unit {0}} (λ _. Bio) (λ _. NextStarts (codes "bio")) (λ _. bio_by_table) (IsNoBio version)
-    (λ _ rows s. record_decides (λ b. codes "bio" ∷ row_by (bio_cells (2 ^ 8)) b) (FitsCells (bio_cells (2 ^ 8))) why.Count (WordLacks (codes "bio") (slots_by (bio_cells (2 ^ 8)))) (word_decides (codes "bio") (bio_cells (2 ^ 8)) (FitsCells (bio_cells (2 ^ 8))) (bio_table 256 (omega arith))) rows)
-    find)
+plain_tells : (version : ℕ) → Tells (plain_bio version)
+plain_tells version = seen_tells (λ b. (tt, b)) (λ u z e. (let r : u ≡ z = (λ i. (e i).1) in r)) (λ v f. (v.1, refl))
+    (by_word_tells {K = Unit {0}} (λ _. Bio) (λ _. NextStarts (codes "bio")) (λ _. bio_by_table) (IsNoBio version) (λ _ rows s. (record_tells why.Count (word_tells (codes "bio") (bio_table 256 (omega arith)))).told rows)
+    (λ i j rows s t. refl) (λ i rows v a h. next_starts (codes "bio") (row_by (bio_cells (2 ^ 8)) v) rows a h.made) (no_bio_once version) find)
   where
     find : (rows : List Row) → ((i : Unit {0}) × NextStarts (codes "bio") rows) ⊎ (((i : Unit {0}) → ¬ NextStarts (codes "bio") rows) × ((w : TextReason) × IsNoBio version rows w))
     find [] = inr ((λ i s. s), (why.Count, refl))
@@ -80,41 +70,33 @@ plain_decides version = seen_decides (λ b. (tt, b)) (only_bios version) (λ v f
     ]
 
 whole_tells : (version : ℕ) → Tells (whole_bio version)
-whole_tells version = tested_tells (plain_bio version) IsBio IsNoSuchBio (plain_tells version)
+whole_tells version = tested_tells IsBio IsNoSuchBio (plain_tells version)
     (λ b k j w x fit f g. (f.1 ∙ sym g.1, f.2 ∙ ap why.Bio (one_bio_fault b f.0 g.0 f.3 g.3) ∙ sym g.2))
     (λ b k w good f. no_bio_is b f.0 good f.3)
-    (λ b k w f. (let is = f.1 in (omega (arith, is), omega (arith, is))))
-
-pub bio_tells : (version : ℕ) (limits : Limits) (before : List Bio) → Tells (group_bio version limits before)
-bio_tells version limits before = tested_tells (whole_bio version) (Tiles limits before) (IsAstray limits before) (whole_tells version)
-    (λ b k j w x fit f g. (f.0 ∙ sym g.0, f.1 ∙ sym g.1))
-    (λ b k w good f. f.2 good)
-    (λ b k w f. (let is = f.0 in (omega (arith, is), omega (arith, is))))
-
-whole_decides : (version : ℕ) → Decides (whole_bio version)
-whole_decides version = tested_decides (plain_bio version) IsBio IsNoSuchBio (plain_decides version) (λ b fit. elim (bio_or_none b) [
-  | inl i ↦ inl i
-  | inr f ↦ inr (1, why.Bio f.0, (f.0, refl, refl, f.1))
-])
+    (λ b k w f. (let is = f.1 in (omega (arith, is), omega (arith, is)))) (λ b fit. elim (bio_or_none b) [
+      | inl i ↦ inl i
+      | inr f ↦ inr (1, why.Bio f.0, (f.0, refl, refl, f.1))
+    ])
 
 tiles_decided : (limits : Limits) (before : List Bio) (b : Bio) → Dec (Tiles limits before b)
 tiles_decided limits [] b = inl tt
 tiles_decided limits (a ∷ before) b = fits_decided limits (a ∷ before) (b ∷ []) side.Back
 
-bio_decides : (version : ℕ) (limits : Limits) (before : List Bio) → Decides (group_bio version limits before)
-bio_decides version limits before = tested_decides (whole_bio version) (Tiles limits before) (IsAstray limits before) (whole_decides version) (λ b fit. elim (tiles_decided limits before b) [
-  | inl t ↦ inl t
-  | inr n ↦ inr (1, why.Tile, (refl, refl, n))
-])
-
-bio_rows : (version : ℕ) (limits : Limits) → HasRows {S = List Bio} (group_bio version limits)
-bio_rows version limits s v fit e = cc e
+bio_item : (version : ℕ) (limits : Limits) (before : List Bio) → IsItem (group_bio version limits before)
+bio_item version limits before = record {
+  tells = tested_tells (Tiles limits before) (IsAstray limits before) (whole_tells version)
+      (λ b k j w x fit f g. (f.0 ∙ sym g.0, f.1 ∙ sym g.1))
+      (λ b k w good f. f.2 good)
+      (λ b k w f. (let is = f.0 in (omega (arith, is), omega (arith, is)))) (λ b fit. elim (tiles_decided limits before b) [
+        | inl t ↦ inl t
+        | inr n ↦ inr (1, why.Tile, (refl, refl, n))
+      ]);
+  plain = λ v rest fit. tt;
+  some = λ v fit e. (cc e);
+}
 
 pub group_tells : (version : ℕ) (limits : Limits) (count : ℕ) → Tells (group version limits count)
-group_tells version limits count = many_tells (repeats.Exactly count) (group_bio version limits) with_next (bio_tells version limits) (λ s v rest fit. tt) (bio_rows version limits) []
-
-pub group_decides : (version : ℕ) (limits : Limits) (count : ℕ) → Decides (group version limits count)
-group_decides version limits count = many_decides (repeats.Exactly count) (group_bio version limits) with_next (bio_decides version limits) []
+group_tells version limits count = many_tells (repeats.Exactly count) with_next (bio_item version limits) []
 
 -- a group has a record for each bio
 sizes : (version : ℕ) (limits : Limits) (before bios : List Bio) → length (all_rows (group_bio version limits) with_next before bios) ≡ length bios

@@ -4,7 +4,7 @@ use Rattle.std.specs.Prelude.{if◌then◌else◌}
 use Rattle.blk_records.specs.Sources.{Row}
 use Rattle.blk_records.specs.Words.{HasNoWord}
 use Rattle.blk_records.specs.Fields.{Lacks, FieldsSpell}
-use Rattle.blk_records.specs.Kinds.{KindRow, Told, cells_of, RowSaid, HasRow, said_record}
+use Rattle.blk_records.specs.Kinds.{KindRow, Told, cells_of, RowSaid, HasRow}
 use Rattle.blk_records.specs.Reads.{IsRowOf, IsWrongRecord, IsOne}
 use Rattle.blk_text.specs.EventKinds.{event_table}
 use Rattle.blk_text.specs.TraceForm.{Head, said, first_record}
@@ -13,10 +13,9 @@ use Rattle.blk_records.specs.declared.fault.TextReason.{TextReason}
 use Rattle.blk_records.specs.declared.fault.TextReason.TheVariants as why
 use Rattle.blk_trace.specs.declared.event.Event.TheVariants as head
 use Rattle.text_grammar.specs.Laws.{Tells}
-use Rattle.text_grammar.specs.Inside.Laws.{Decides}
-use Rattle.text_grammar.proofs.Then.{seen_tells, seen_decides}
+use Rattle.text_grammar.proofs.Then.{seen_tells}
 use Rattle.blk_records.proofs.TableLaws.{IsBy}
-use Rattle.blk_records.proofs.KindLaws.{EachRow, row_in, IsWordRow, IsKinds, IsWordOf, apart, numbers_said, said_tells, said_decides, said_line, said_lacks, said_nowhere, said_gone}
+use Rattle.blk_records.proofs.KindLaws.{EachRow, row_in, IsWordRow, IsKinds, IsWordOf, apart, numbers_said, said_tells, said_line, said_lacks, said_nowhere, said_gone}
 
 -- the rows, in the order of the table
 
@@ -83,13 +82,10 @@ head_back head.Tick = refl
 head_back h = refl
 
 pub head_tells : (version : ℕ) → Tells (first_record version)
-head_tells version = seen_tells said (said_record why.Count WIDTH event_table version) (λ l m e. sym (head_back l) ∙ ap made_again e ∙ head_back m) (said_tells why.Count WIDTH event_table version event_kinds)
+head_tells version = seen_tells said (λ l m e. sym (head_back l) ∙ ap made_again e ∙ head_back m) (λ s f. row_in IsToldBy event_table s.0 heads f.0.0 s.1) (said_tells why.Count WIDTH event_table version event_kinds)
 
 pub head_one : (version : ℕ) → IsOne (first_record version)
 head_one version = record { tells = head_tells version; plain = λ h rest f. tt; one = λ h. refl }
-
-pub head_decides : (version : ℕ) → Decides (first_record version)
-head_decides version = seen_decides said (said_record why.Count WIDTH event_table version) (λ s f. row_in IsToldBy event_table s.0 heads f.0.0 s.1) (said_decides why.Count WIDTH event_table version event_kinds)
 
 -- what was read of a first record
 

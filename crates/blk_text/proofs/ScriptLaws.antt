@@ -1,5 +1,5 @@
 -- The laws of scripts.
-use Rattle.std.proofs.Common.{◌≡◌, ◌+◌, ◌<◌, ◌≤◌, ◌==◌, ◌∙◌, ℕ, zero, suc, List, [], ◌∷◌, length, map, Option, Some, None, refl, sym, ap, subst, inl, inr, arith, get_or, codes, true}
+use Rattle.std.proofs.Common.{◌≡◌, ◌+◌, ◌<◌, ◌≤◌, ◌==◌, ◌∙◌, ℕ, zero, suc, List, [], length, map, Option, Some, None, refl, sym, ap, subst, inl, inr, arith, get_or, codes, true}
 use Rattle.std.proofs.lemmas.Bool.{le-leb}
 use Rattle.std.specs.Prelude.{◌⊎◌, All, Err, IfSome, Bool, cond, if◌then◌else◌}
 use Rattle.csv.specs.Reading.{default_config, records, strip_bom}
@@ -14,15 +14,15 @@ use Rattle.blk_records.specs.Sources.{Row}
 use Rattle.blk_records.specs.Texts.{rows_text}
 use Rattle.edd_commands.specs.declared.steps.TheConstants.{MAX_DEPTH}
 use Rattle.blk_text.specs.SetupRecord.{setup_cells, setup, FitsSetup}
-use Rattle.blk_records.specs.Words.{StartsWith, WordLacks}
+use Rattle.blk_records.specs.Words.{StartsWith}
 use Rattle.blk_records.specs.Fields.{Lacks, FieldsSpell}
 use Rattle.blk_records.specs.Reads.{Reads, Halts, IsRowOf, IsWrongRecord, IsOne, items_of}
-use Rattle.blk_records.specs.Tables.{FitsCells, row_by, slots_by}
+use Rattle.blk_records.specs.Tables.{FitsCells}
 use Rattle.blk_records.specs.Titles.{IsVersion, most_in, title_cells, TakesTitle, StopsAtTitle}
-use Rattle.blk_records.specs.Kinds.{KindRow, row_below, Told, cells_of, RowSaid, HasRow, said_record}
+use Rattle.blk_records.specs.Kinds.{KindRow, row_below, Told, cells_of, RowSaid, HasRow}
 use Rattle.blk_text.specs.StepKinds.{step_table}
 use Rattle.blk_text.specs.declared.bios.TheConstants.{BIO}
-use Rattle.blk_text.specs.Script.{step_said, LineFits, IsLineOf, IsRight, HasNoSuchBio, Title, title_numbers, IsTitle, IsEnough, TooFew, plain_title, script_title_part, plain_step, step, script_body, script_form, script_value, Scripted, title_of, script_rows, IsScript, IsScriptOf, SpellsVersion, SpellsScript, ScriptFault}
+use Rattle.blk_text.specs.Script.{step_said, LineFits, IsLineOf, IsRight, HasNoSuchBio, Title, title_numbers, IsTitle, IsEnough, TooFew, plain_title, script_title_part, step, script_body, script_form, script_value, Scripted, title_of, script_rows, IsScript, IsScriptOf, SpellsVersion, SpellsScript, ScriptFault}
 use Rattle.blk_text.specs.Inside.BioTable.{bio_record}
 use Rattle.blk_text.specs.Versions.{most_tags}
 use Rattle.blk_text.specs.declared.setup.TheConstants.{LATEST, MAX_DEPTH_1, MORE_TAGS, WIDTH}
@@ -31,15 +31,14 @@ use Rattle.blk_records.specs.declared.fault.TextReason.TheVariants as why
 use Rattle.text_grammar.specs.declared.Repeats.TheVariants as repeats
 use Rattle.text_grammar.specs.Parts.{Begins, Spells}
 use Rattle.text_grammar.specs.Laws.{Tells}
-use Rattle.text_grammar.specs.Inside.Laws.{Decides}
-use Rattle.text_grammar.proofs.Then.{at_first, record_decides, then_tells, then_decides, tested_tells, tested_decides, seen_tells, seen_decides}
+use Rattle.text_grammar.proofs.Then.{once, apart as never_both, first, decided, at_first, then_tells, tested_tells, seen_tells}
 use Rattle.blk_text.specs.declared.script.Line.{Line}
 use Rattle.blk_text.specs.declared.script.Line.TheVariants as line
 use Rattle.blk_records.proofs.Lacking.{at_most}
-use Rattle.blk_records.proofs.KindLaws.{EachRow, row_in, IsWordRow, IsKinds, IsWordOf, apart, way_of, way_back, numbers_said, said_tells, said_decides, said_line, said_lacks, said_gone}
-use Rattle.blk_records.proofs.TableLaws.{IsTable, IsBy, word_tells, word_decides}
-use Rattle.blk_records.proofs.TitleLaws.{IsTitleTable, title_tells, title_decides, title_reads}
-use Rattle.blk_records.proofs.Each.{all_fit, each_tells, each_decides, one_record}
+use Rattle.blk_records.proofs.KindLaws.{EachRow, row_in, IsWordRow, IsKinds, IsWordOf, apart, way_of, way_back, numbers_said, said_tells, said_line, said_lacks, said_gone}
+use Rattle.blk_records.proofs.TableLaws.{IsTable, IsBy, word_tells}
+use Rattle.blk_records.proofs.TitleLaws.{IsTitleTable, title_tells, title_reads}
+use Rattle.blk_records.proofs.Each.{all_fit, each_tells, one_record}
 use Rattle.blk_records.proofs.Reading.{then_reads, first_halts, second_halts}
 use Rattle.blk_records.proofs.Texts.{text_back, parts_back, begins_itself}
 use Rattle.blk_bio.specs.declared.limits.TheConstants.{MAX_QUEUES, MAX_SOFT_QUEUES}
@@ -170,19 +169,13 @@ right_or_no_bio (line.Bio b) = elim (bio_or_none b) [
 right_or_no_bio l = inl (λ b e. absurd (cc e))
 
 step_tells : (version hw submitters : ℕ) → hw ≤ MAX_QUEUES → submitters ≤ MAX_SOFT_QUEUES → Tells (step version hw submitters)
-step_tells version hw submitters g s = tested_tells (plain_step version hw submitters) IsRight HasNoSuchBio
-    (seen_tells (step_said hw submitters) (said_record why.Count WIDTH (step_table hw submitters) version) (λ l m e. sym (line_back hw submitters l) ∙ ap made_again e ∙ line_back hw submitters m)
+step_tells version hw submitters g s = tested_tells IsRight HasNoSuchBio
+    (seen_tells (step_said hw submitters) (λ l m e. sym (line_back hw submitters l) ∙ ap made_again e ∙ line_back hw submitters m) (λ v f. row_in (IsToldBy hw submitters) (step_table hw submitters) v.0 (lines hw submitters) f.0.0 v.1)
     (said_tells why.Count WIDTH (step_table hw submitters) version (step_kinds hw submitters g s)))
-    (λ l k j w x fit. no_bio_once l k j w x) (λ l k w good n. no_bio_is n.0 n.1 (good n.0 n.2) n.5) (λ l k w n. (let is = n.3 in (omega (arith, is), omega (arith, is))))
+    (λ l k j w x fit. no_bio_once l k j w x) (λ l k w good n. no_bio_is n.0 n.1 (good n.0 n.2) n.5) (λ l k w n. (let is = n.3 in (omega (arith, is), omega (arith, is)))) (λ l fit. right_or_no_bio l)
 
 pub step_one : (version hw submitters : ℕ) → hw ≤ MAX_QUEUES → submitters ≤ MAX_SOFT_QUEUES → IsOne (step version hw submitters)
 step_one version hw submitters g s = record { tells = step_tells version hw submitters g s; plain = λ l rest f. tt; one = λ l. refl }
-
-step_decides : (version hw submitters : ℕ) → hw ≤ MAX_QUEUES → submitters ≤ MAX_SOFT_QUEUES → Decides (step version hw submitters)
-step_decides version hw submitters g s = tested_decides (plain_step version hw submitters) IsRight HasNoSuchBio
-    (seen_decides (step_said hw submitters) (said_record why.Count WIDTH (step_table hw submitters) version) (λ v f. row_in (IsToldBy hw submitters) (step_table hw submitters) v.0 (lines hw submitters) f.0.0 v.1)
-    (said_decides why.Count WIDTH (step_table hw submitters) version (step_kinds hw submitters g s)))
-    (λ l fit. right_or_no_bio l)
 
 -- the numbers of a step, as its table and as the script say
 pub step_fits : (version hw submitters : ℕ) → (l : Line) → IsLineOf version l → LineFits hw submitters l → (step version hw submitters).Fits l
@@ -271,16 +264,13 @@ title_table = record {
 }
 
 script_title_tells : Tells script_title_part
-script_title_tells = tested_tells plain_title IsEnough TooFew (title_tells SCRIPT title_numbers IsTitle title_table)
+script_title_tells = tested_tells IsEnough TooFew (title_tells title_table)
     (λ t k j w x fit f g. (f.0 ∙ sym g.0, f.1 ∙ sym g.1))
     (λ t k w good f. (let few = f.2 in omega (arith, good, few)))
-    (λ t k w f. (let is = f.0 in (omega (arith, is), omega (arith, is))))
-
-title_decided : Decides script_title_part
-title_decided = tested_decides plain_title IsEnough TooFew (title_decides SCRIPT title_numbers IsTitle title_table) (λ t fit. elim (at_most t.1.hw t.1.submitters) [
-  | inl e ↦ inl e
-  | inr n ↦ inr (1, why.Range, (refl, refl, few t.1.hw t.1.submitters n))
-])
+    (λ t k w f. (let is = f.0 in (omega (arith, is), omega (arith, is)))) (λ t fit. elim (at_most t.1.hw t.1.submitters) [
+      | inl e ↦ inl e
+      | inr n ↦ inr (1, why.Range, (refl, refl, few t.1.hw t.1.submitters n))
+    ])
   where
     few : (a b : ℕ) → ¬ (a ≤ b) → b < a
     few a b h = grind (arith, h)
@@ -338,14 +328,8 @@ pub setup_fits : (depth hw : ℕ) (ns : List ℕ) (l : Limits) (s : Setup) → l
     → FitsSetup depth hw (setup_with depth hw ns)
 setup_fits depth hw ns l s e f i k = (refl, refl, record { is_setup = subst IsSetup f i; is_limits = subst IsLimits e k })
 
-abbrev setup_word : Setup → Row
-setup_word s = codes "setup" ∷ row_by setup_cells s
-
 pub setup_one : (depth hw : ℕ) → (0 < depth) × (depth ≤ MAX_DEPTH) → (0 < hw) × (hw ≤ MAX_QUEUES) → IsOne (setup depth hw)
-setup_one depth hw d q = one_record setup_word (FitsSetup depth hw) why.Word (WordLacks (codes "setup") (slots_by setup_cells)) (word_tells (codes "setup") setup_cells (FitsSetup depth hw) (setup_table depth hw d q))
-
-pub setup_decides : (depth hw : ℕ) → (0 < depth) × (depth ≤ MAX_DEPTH) → (0 < hw) × (hw ≤ MAX_QUEUES) → Decides (setup depth hw)
-setup_decides depth hw d q = record_decides setup_word (FitsSetup depth hw) why.Word (WordLacks (codes "setup") (slots_by setup_cells)) (word_decides (codes "setup") setup_cells (FitsSetup depth hw) (setup_table depth hw d q))
+setup_one depth hw d q = one_record why.Word (word_tells (codes "setup") (setup_table depth hw d q))
 
 -- whole scripts
 
@@ -354,32 +338,27 @@ pub setup_depth : (t : ℕ × Title) → IsTitle t.0 t.1 → (0 < t.1.depth) × 
 setup_depth t i = let high = i.depth.1 in (i.depth.0, omega (arith, high, fewer_tags t.0))
 
 steps_tell : (t : ℕ × Title) → IsTitle t.0 t.1 → Tells (items_of (repeats.AtMost MAX_STEPS) (λ _. step t.0 t.1.hw t.1.submitters))
-steps_tell t i = each_tells (step t.0 t.1.hw t.1.submitters) (step_one t.0 t.1.hw t.1.submitters i.hw.1 i.submitters.1) (repeats.AtMost MAX_STEPS)
+steps_tell t i = each_tells (step_one t.0 t.1.hw t.1.submitters i.hw.1 i.submitters.1) (repeats.AtMost MAX_STEPS)
 
 pub body_tells : (t : ℕ × Title) → IsTitle t.0 t.1 → Tells (script_body t)
-body_tells t i = then_tells (setup t.1.depth t.1.hw) (λ s. items_of (repeats.AtMost MAX_STEPS) (λ _. step t.0 t.1.hw t.1.submitters)) (setup_one t.1.depth t.1.hw (setup_depth t i) i.hw).tells (λ s fit. steps_tell t i)
+body_tells t i = then_tells (setup_one t.1.depth t.1.hw (setup_depth t i) i.hw).tells (λ s fit. steps_tell t i)
 
 script_tells : Tells script_form
-script_tells = then_tells script_title_part script_body script_title_tells (λ t fit. body_tells t fit.0.1)
-
-script_decides : Decides script_form
-script_decides = then_decides script_title_part script_body title_decided (λ t fit. (let i = fit.0.1 in
-    then_decides (setup t.1.depth t.1.hw) (λ s. items_of (repeats.AtMost MAX_STEPS) (λ _. step t.0 t.1.hw t.1.submitters))
-    (setup_decides t.1.depth t.1.hw (setup_depth t i) i.hw) (λ s fit. each_decides (step t.0 t.1.hw t.1.submitters) (step_decides t.0 t.1.hw t.1.submitters i.hw.1 i.submitters.1) (repeats.AtMost MAX_STEPS))))
+script_tells = then_tells script_title_tells (λ t fit. body_tells t fit.0.1)
 
 same_script : (s t : Scripted) → s.setup ≡ t.setup → s.soft_depth ≡ t.soft_depth → s.submitters ≡ t.submitters → s.lines ≡ t.lines → s ≡ t
 same_script s t a b c d i = record { setup = a i; soft_depth = b i; submitters = c i; lines = d i }
 
 pub spelled_once : (rows : List Row) (version other : ℕ) (s t : Scripted) → SpellsVersion version rows s → SpellsVersion other rows t → (version ≡ other) × (s ≡ t)
 spelled_once rows version other s t p q =
-    let e = (script_tells.once rows (script_value version s) (script_value other t) [] [] p q).0 in
+    let e = (once script_tells rows (script_value version s) (script_value other t) [] [] p q).0 in
     ((λ i. (e i).0.0), same_script s t (λ i. (e i).1.0) (λ i. (e i).0.1.soft_depth) (λ i. (e i).0.1.submitters) (λ i. (e i).1.1))
 
 pub spelled_apart : (rows : List Row) (s : Scripted) (at : ℕ) (w : TextReason) → SpellsScript rows s → ScriptFault rows at w → ⊥
-spelled_apart rows s at w p = script_tells.apart rows (script_value p.0 s) [] at w p.1
+spelled_apart rows s at w p = never_both script_tells rows (script_value p.0 s) [] at w p.1
 
 pub fault_once : (rows : List Row) (at other : ℕ) (w v : TextReason) → ScriptFault rows at w → ScriptFault rows other v → (at ≡ other) × (w ≡ v)
-fault_once = script_tells.first
+fault_once = first script_tells
 
 steps_fit : (version hw submitters : ℕ) (lines : List Line) → All (IsLineOf version) lines → All (LineFits hw submitters) lines → All (step version hw submitters).Fits lines
 steps_fit version hw submitters lines v h = λ k d l. step_fits version hw submitters _ (v k d l) (h k d l)
@@ -417,7 +396,7 @@ script_spelled rows t s lines f h =
     (t.0, subst (λ v. Spells script_form rows v) (λ i. ((t.0, sym same i), (s, lines))) h)
 
 pub spelled_or_wrong : (rows : List Row) → ((s : Scripted) × SpellsScript rows s) ⊎ ((at : ℕ) × (w : TextReason) × ScriptFault rows at w)
-spelled_or_wrong rows = elim (script_decides rows) [
+spelled_or_wrong rows = elim (decided script_tells rows) [
   | inl h ↦ (let f = h.2.fits in let t = h.0.0 in
       inl (record { setup = h.0.1.0; soft_depth = t.1.soft_depth; submitters = t.1.submitters; lines = h.0.1.1 }, script_spelled rows t h.0.1.0 h.0.1.1 f.1.0 (rw h.2.follows.1.1.1 at h.2)))
   | inr f ↦ inr f

@@ -42,13 +42,13 @@ use Rattle.blk_records.specs.declared.fault.TextReason.TheVariants as why
 use Rattle.text_grammar.specs.declared.Repeats.TheVariants as repeats
 use Rattle.text_grammar.specs.Parts.{Begins, AllFit, Spells, all_rows}
 use Rattle.text_grammar.proofs.Many.{fit_more, ended_reached}
-use Rattle.text_grammar.proofs.Then.{reached_second, at_first}
+use Rattle.text_grammar.proofs.Then.{once, apart, first, decided, reached_second, at_first}
 use Rattle.blk_records.proofs.Lists.{head_of, tail_of, all_cons}
 use Rattle.blk_records.proofs.Reading.{after_all, first_halts, halts_err, second_fails, second_halts, then_reads}
 use Rattle.blk_records.proofs.Texts.{text_back, begins_itself}
 use Rattle.blk_text.proofs.ScriptLaws.{setup_one}
 use Rattle.blk_text.proofs.HeadLaws.{said_in}
-use Rattle.blk_text.proofs.EventLaws.{event_tells, event_plain, event_rows as some_rows, more_tells, trace_title_tells, setup_depth, body_tells, trace_tells, trace_decides, events_tell}
+use Rattle.blk_text.proofs.EventLaws.{event_item, more_tells, trace_title_tells, setup_depth, body_tells, trace_tells, events_tell}
 use Rattle.blk_bio.specs.declared.limits.TheConstants.{MAX_SEGMENTS}
 
 -- the records of a trace's events, one after the other
@@ -226,14 +226,14 @@ written_back t = text_back (trace_rows t) _ refl (rw (all_back LATEST t) refl)
 
 pub spelled_once : (rows : List Row) (version other : ℕ) (t u : Traced) → SpellsTraceIn version rows t → SpellsTraceIn other rows u → (version ≡ other) × (t.setup ≡ u.setup) × (t.events ≡ u.events)
 spelled_once rows version other t u p q =
-    let e = (trace_tells.once rows (trace_value version t) (trace_value other u) [] [] p q).0 in
+    let e = (once trace_tells rows (trace_value version t) (trace_value other u) [] [] p q).0 in
     ((λ i. (e i).0.0), (λ i. (e i).1.0), (λ i. (e i).1.1))
 
 pub spelled_apart : (rows : List Row) (t : Traced) (at : ℕ) (w : TextReason) → SpellsTrace rows t → TraceTextFault rows at w → ⊥
-spelled_apart rows t at w p = trace_tells.apart rows (trace_value p.0 t) [] at w p.1
+spelled_apart rows t at w p = apart trace_tells rows (trace_value p.0 t) [] at w p.1
 
 pub fault_once : (rows : List Row) (at other : ℕ) (w v : TextReason) → TraceTextFault rows at w → TraceTextFault rows other v → (at ≡ other) × (w ≡ v)
-fault_once = trace_tells.first
+fault_once = first trace_tells
 
 -- reading
 
@@ -310,7 +310,7 @@ value_is : (t : Traced) (v : ℕ × TraceTitle) (s : Setup) → t.setup ≡ s �
 value_is t v s e f c = λ i. ((v.0, record { depth = (sym f.0 ∙ ap (λ (x : Setup). x.depth) (sym e)) i; hw = (sym f.1 ∙ ap (λ (x : Setup). x.hw) (sym e)) i; count = sym c i }), (sym e i, t.events))
 
 pub spelled_or_wrong : (rows : List Row) → ((t : Traced) × SpellsTrace rows t) ⊎ ((at : ℕ) × (w : TextReason) × TraceTextFault rows at w)
-spelled_or_wrong rows = elim (trace_decides rows) [
+spelled_or_wrong rows = elim (decided trace_tells rows) [
   | inl h ↦ (let f = h.2.fits.1 in
       let t : Traced = record { setup = h.0.1.0; events = h.0.1.1; prepared = Nothing } in
       let whole : Spells trace_form rows h.0 = rw h.2.follows.1.1.1 at h.2 in
@@ -363,7 +363,7 @@ events_held (Some rows) mid next t s at last i r k h =
     let high = h.3 in
     let second = rw r.1 at k in
     let good = rw second.1 at h.4 in
-    let reached = ended_reached (repeats.Exactly t.1.count) why.Count (event t.0 s) (one_more t.0 s) with_next (event_tells t.0 s) (event_plain t.0 s) (some_rows t.0 s) (more_tells t.0 s) [] second.0 h.0 good in
+    let reached = ended_reached (repeats.Exactly t.1.count) why.Count (event t.0 s) (one_more t.0 s) with_next (event_item t.0 s) (more_tells t.0 s) [] second.0 h.0 good in
     let in_body = reached_second (setup t.1.depth t.1.hw) (λ s. events_of t.0 s t.1.count) (setup_one t.1.depth t.1.hw (setup_depth t i) i.hw).tells r.0 second.0 s h.0 second.2 reached in
     (1 + (1 + h.0), omega (arith, low), h.2, omega (arith, high), reached_second trace_title_part trace_body trace_title_tells rows r.0 t (1 + h.0) r.2 in_body)
 

@@ -1,13 +1,19 @@
 -- The laws of parts that clauses cite.
-use Rattle.std.specs.Prelude.{◌≡◌, ◌+◌, ◌≤◌, ℕ, List, length}
-use Rattle.text_grammar.specs.Parts.{Part, Begins}
+use Rattle.std.specs.Prelude.{◌≡◌, ◌+◌, ◌≤◌, List, length, Ok, Err}
+use Rattle.text_grammar.specs.Parts.{Part, Took, IsTaken}
 
--- records determine what a part says: at most one value that they begin with, at most one first fault, and never both
+-- a fault is at most one past the last record
+abbrev pub IsNear : {R E V : Type 0} → List R → Took R E V → Type 0
+IsNear rows (Ok t) = Unit {0}
+IsNear rows (Err f) = (1 ≤ f.0) × (f.0 ≤ length rows + 1)
+
+-- what records are taken as, and that it is the only thing
+abbrev pub Told : {R E V : Type 0} → Part R E V → List R → Type 0
+Told {R} {E} {V} p rows = (t : Took R E V) × IsTaken p rows t × IsNear rows t × ((u : Took R E V) → IsTaken p rows u → t ≡ u)
+
+-- a part is a function: records begin with one value's, or have one first fault
 pub record Tells {R E V : Type 0} (p : Part R E V) : Type 0 where
-  pub once : (rows : List R) → (v u : V) → (a b : List R) → Begins p rows v a → Begins p rows u b → (v ≡ u) × (a ≡ b)
-  pub apart : (rows : List R) → (v : V) → (a : List R) → (k : ℕ) → (w : E) → Begins p rows v a → p.Wrong rows k w → ⊥
-  pub first : (rows : List R) → (k j : ℕ) → (w x : E) → p.Wrong rows k w → p.Wrong rows j x → (k ≡ j) × (w ≡ x)
-  pub near : (rows : List R) → (k : ℕ) → (w : E) → p.Wrong rows k w → (1 ≤ k) × (k ≤ length rows + 1)
+  pub told : (rows : List R) → Told p rows
 
 -- any record may follow
 abbrev pub IsPlain : {R E V : Type 0} → Part R E V → Type 0

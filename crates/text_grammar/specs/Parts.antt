@@ -1,5 +1,5 @@
 -- Parts of a text, and what they are made of.
-use Rattle.std.specs.Prelude.{◌≡◌, ◌⊎◌, ◌+◌, ◌≤◌, ◌<◌, ℕ, List, [], ◌∷◌, ◌++◌, length}
+use Rattle.std.specs.Prelude.{◌≡◌, ◌⊎◌, ◌+◌, ◌≤◌, ◌<◌, ℕ, List, [], ◌∷◌, ◌++◌, length, Result, Ok, Err}
 use Rattle.text_grammar.specs.declared.Repeats.{Repeats}
 use Rattle.text_grammar.specs.declared.Repeats.TheVariants as repeats
 
@@ -17,11 +17,24 @@ pub record Begins {R E V : Type 0} (p : Part R E V) (rows : List R) (v : V) (res
   pub made : rows ≡ p.rows_of v ++ rest
   pub follows : p.Follows v rest
 
+-- what records are taken as: a value and what is left, or the place and kind of the first fault
+abbrev pub Took : Type 0 → Type 0 → Type 0 → Type 0
+Took R E V = Result (V × List R) (ℕ × E)
+
+-- the records are taken as this
+abbrev pub IsTaken : {R E V : Type 0} → Part R E V → List R → Took R E V → Type 0
+IsTaken p rows (Ok t) = Begins p rows t.0 t.1
+IsTaken p rows (Err f) = p.Wrong rows f.0 f.1
+
+-- where that ends: one past the records of the value, or at the fault
+abbrev pub place_of : {R E V : Type 0} → Part R E V → Took R E V → ℕ
+place_of p (Ok t) = length (p.rows_of t.0) + 1
+place_of p (Err f) = f.0
+
 -- no record before the one at this place is wrong, the part is not over before it, and it is at most one past the last
 pub record GetsTo {R E V : Type 0} (p : Part R E V) (rows : List R) (at : ℕ) : Type 0 where
   pub far : at ≤ length rows + 1
-  pub good : (k : ℕ) → (w : E) → p.Wrong rows k w → at ≤ k
-  pub within : (v : V) → (rest : List R) → Begins p rows v rest → at ≤ length (p.rows_of v) + 1
+  pub good : (t : Took R E V) → IsTaken p rows t → at ≤ place_of p t
 
 -- what is wrong at the next record: it never came, or it came and lacks something
 abbrev pub NextWrong : {R E : Type 0} → E → (R → E → Type 0) → List R → E → Type 0

@@ -1,3 +1,4 @@
+use Rattle.text_grammar.proofs.Then.{first}
 use Rattle.blk_records.specs.declared.proof.ProofKind.TheVariants as kind
 use Rattle.blk_records.proofs.ProofLaws.{of_wrong, wrong_of, neither_wrong, claim_named, on_time_named, spelled_once, spelled_or_wrong, spelled_apart, proof_tells}
 use Rattle.blk_records.proofs.laws.certificates_of_both_forms.Goals as goal
@@ -27,4 +28,4 @@ pub returns-clause-apart : goal.returns-clause-apart
 returns-clause-apart c = spelled_apart
 
 pub returns-clause-first : goal.returns-clause-first
-returns-clause-first c = proof_tells.first
+returns-clause-first c = first proof_tells

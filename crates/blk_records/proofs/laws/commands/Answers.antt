@@ -1,3 +1,4 @@
+use Rattle.text_grammar.proofs.Then.{apart, first}
 use Rattle.blk_records.proofs.CommandLaws.{spelled_once, read_back_is, spelled_or_wrong, list_tells}
 use Rattle.blk_records.proofs.laws.commands.Goals as goal
 
@@ -11,7 +12,7 @@ pub returns-clause-decided : goal.returns-clause-decided
 returns-clause-decided c = spelled_or_wrong
 
 pub returns-clause-apart : goal.returns-clause-apart
-returns-clause-apart c = λ rows depth commands at w s f. list_tells.apart rows ((1, depth), commands) _ at w s f
+returns-clause-apart c = λ rows depth commands at w s f. apart list_tells rows ((1, depth), commands) _ at w s f
 
 pub returns-clause-first : goal.returns-clause-first
-returns-clause-first c = list_tells.first
+returns-clause-first c = first list_tells

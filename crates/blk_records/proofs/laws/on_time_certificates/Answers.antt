@@ -1,3 +1,4 @@
+use Rattle.text_grammar.proofs.Then.{apart, first}
 use Rattle.blk_records.proofs.OnTimeLaws.{spelled_once, read_back_is, spelled_or_wrong, on_time_tells}
 use Rattle.blk_records.proofs.laws.on_time_certificates.Goals as goal
 
@@ -11,7 +12,7 @@ pub returns-clause-decided : goal.returns-clause-decided
 returns-clause-decided c = spelled_or_wrong
 
 pub returns-clause-apart : goal.returns-clause-apart
-returns-clause-apart c = λ rows c at w s f. on_time_tells.apart rows _ _ at w s.1 f
+returns-clause-apart c = λ rows c at w s f. apart on_time_tells rows _ _ at w s.1 f
 
 pub returns-clause-first : goal.returns-clause-first
-returns-clause-first c = on_time_tells.first
+returns-clause-first c = first on_time_tells
