@@ -235,6 +235,13 @@ fn of_the_program(rt: HostRuntime) {
         LoadFault::Unserved,
     ];
     assert!(rt; print_names(heap, &loads));
+    let flushes = [
+        FlushReason::Foreign(bio()),
+        FlushReason::Repeated(bio()),
+        FlushReason::SoftFull,
+        FlushReason::Memory,
+    ];
+    assert!(rt; print_names(heap, &flushes));
     let failures = [
         Failure::Sched(SchedFault::Memory),
         Failure::Run(RunFault::Memory),
